@@ -1,0 +1,32 @@
+// Every refusal: one enum a layer, and one definition that gives each case its number, place and layer.
+mod append;
+mod code;
+mod encode;
+mod encoding;
+mod fault;
+mod making;
+mod operand;
+mod reader;
+mod rule;
+mod sheet;
+mod words;
+
+pub use append::AppendFault;
+pub use append::AppendOfEncode;
+pub use append::AppendOfSheet;
+pub use code::FaultCode;
+pub use encode::EncodeFault;
+pub use encode::EncodeOfEncoding;
+pub use encoding::EncodingFault;
+pub use encoding::EncodingFaultDisplay;
+pub use fault::Fault;
+pub use making::MakingFault;
+pub use operand::OperandFault;
+pub use operand::OperandFaultDisplay;
+pub use reader::ReadFault;
+pub use reader::ReadFaultDisplay;
+pub use rule::Rule;
+pub use rule::RuleDisplay;
+pub use sheet::SheetFault;
+pub use sheet::SheetFaultDisplay;
+pub use words::FaultDisplay;

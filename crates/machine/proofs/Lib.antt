@@ -1,0 +1,4 @@
+pub mod Banked
+pub mod ByteCodes
+pub mod Look
+pub mod Named

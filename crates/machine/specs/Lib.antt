@@ -1,0 +1,10 @@
+pub mod Banks
+pub mod Bytes
+pub mod CodeSizes
+pub mod Codes
+pub mod Modes
+pub mod Names
+pub mod OpKinds
+pub mod Places
+pub mod Roundings
+pub mod Segments

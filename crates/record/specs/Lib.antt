@@ -1,0 +1,4 @@
+pub mod Classes
+pub mod Flags
+pub mod Immediates
+pub mod Rules
