@@ -5,6 +5,9 @@ pub mod Codes
 pub mod Modes
 pub mod Names
 pub mod OpKinds
+pub mod Opmasks
 pub mod Places
+pub mod Registers
 pub mod Roundings
+pub mod Scales
 pub mod Segments

@@ -1,7 +1,6 @@
 ghost use mathlib.Core.Path.{_≡_};
-ghost use Prim.Native.Nat.{_+_, _≤_};
-ghost use Rattle.std.specs.Options.{Cases as BySome};
 ghost use Rattle.machine.specs.Banks.{bank-first, bank-count, Bank-back};
+ghost use Rattle.machine.specs.Registers.{bank-register};
 use super::register::Register;
 
 // The banks of registers, each a run of numbers.
@@ -54,7 +53,7 @@ impl Bank {
 
     // the register at a place of the bank
     pub fn register(self, index: u8) -> Option<Register>
-        ensures value { λ r. ⌜ BySome r (bank-count self ≤ index) (λ x. x .number ≡ bank-first self + index) ⌝ }
+        ensures value { λ r. ⌜ r ≡ bank-register self index ⌝ }
         ensures back { λ _. ⌜ Bank-back ⌝ }
     {
         if index < self.count() {

@@ -1,7 +1,7 @@
 ghost use mathlib.Core.Path.{_≡_};
-ghost use Prim.Native.Nat.{_≤_};
-ghost use Rattle.std.specs.Options.{Cases as BySome};
+ghost use Prim.Native.Nat.{_<_};
 ghost use Rattle.machine.specs.Bytes.{byte-code, byte-register, Byte-there, Byte-back};
+ghost use Rattle.machine.specs.Registers.{byte-numbered};
 use super::register::Register;
 
 // How a register of the 8-bit bank is written: its number, 0 to 15, and whether a REX prefix has to be there (SPL to
@@ -11,6 +11,17 @@ pub struct ByteCode {
     pub number: u8,
     pub rex: bool,
     pub high: bool,
+}
+
+fn register_number(number: u8, rex: bool) -> u8
+    requires { ⌜ number < 16 ⌝ }
+    ensures { λ r. ⌜ r ≡ byte-register number rex ⌝ }
+{
+    if number < 4 || (number < 8 && !rex) {
+        number + 1
+    } else {
+        number + 5
+    }
 }
 
 impl ByteCode {
@@ -32,15 +43,12 @@ impl ByteCode {
 
     // the 8-bit register that a number stands for, with a REX prefix and without
     pub fn register(number: u8, rex: bool) -> Option<Register>
-        ensures value { λ r. ⌜ BySome r (16 ≤ number) (λ x. x .number ≡ byte-register number rex) ⌝ }
+        ensures value { λ r. ⌜ r ≡ byte-numbered number rex ⌝ }
         ensures back { λ _. ⌜ Byte-back ⌝ }
     {
         if number >= 16 {
             return None;
         }
-        if number < 4 || (number < 8 && !rex) {
-            return Register::new(number + 1);
-        }
-        Register::new(number + 5)
+        Register::new(register_number(number, rex))
     }
 }

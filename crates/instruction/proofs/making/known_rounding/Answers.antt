@@ -1,0 +1,8 @@
+use borrow.Author.Needs.{needs}
+use mathlib.Core.Path.{_∙_, ap}
+use Rattle.instruction.specs.Making.{or-field, rounding-made}
+use Rattle.instruction.proofs.making.known_rounding.Needs as need
+
+pub returns : need.returns
+unfolding rounding-made
+returns c = c .known .ensures ∙ ap or-field (c .from-number .ensures)

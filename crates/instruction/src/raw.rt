@@ -1,0 +1,28 @@
+// The fields of an instruction as numbers, whatever their values.
+#[derive(Clone, Copy)]
+pub struct RawInstruction {
+    pub code_size: u8,
+    pub segment: u8,
+    pub lock: bool,
+    pub repe: bool,
+    pub repne: bool,
+    pub base: u8,
+    pub index: u8,
+    pub scale: u8,
+    pub displ_size: u8,
+    pub mem_displ: u64,
+    pub immediate: u32,
+    pub kind0: u8,
+    pub kind1: u8,
+    pub kind2: u8,
+    pub kind3: u8,
+    pub reg0: u8,
+    pub reg1: u8,
+    pub reg2: u8,
+    pub reg3: u8,
+    pub opmask: u8,
+    pub zeroing: bool,
+    pub broadcast: bool,
+    pub sae: bool,
+    pub rounding: u8,
+}

@@ -1,0 +1,3 @@
+pub mod LowestIs
+pub mod OneBit
+pub mod Scales
