@@ -5,6 +5,7 @@ use mathlib.Core.List.{List, [], _∷_}
 use Prim.Native.Nat.{ℕ, zero, suc, _<_, _≤_}
 use native.Mathlib.Omega.{arith}
 use lib.Count.{ones}
+use lib.Dec.{ltb}
 use lib.ListN.{length, getD}
 use Rattle.std.specs.declared.option.Option.{Option}
 use Rattle.std.specs.declared.option.Option.the-variants.{Some, None}
@@ -16,8 +17,8 @@ use Rattle.record.specs.declared.sound.Record.{Record}
 use Rattle.record.specs.Rules.{broken}
 use Rattle.record.specs.Making.{record-of, sound-or-none}
 use Rattle.record.proofs.Made.{made-ok}
-use Rattle.catalogue.specs.Built.{built-rows}
-use Rattle.catalogue.specs.Meaning.{row-of}
+use Rattle.catalogue.specs.Built.{built-rows, row0}
+use Rattle.catalogue.specs.Meaning.{row-of, Ten-sound-records}
 
 pub row-at : (rows : List RawRecord) (n : ℕ) (d : RawRecord) → n < length rows → row-of rows n ≡ sound-or-none (record-of (getD rows n d))
 unfolding row-of
@@ -78,3 +79,15 @@ built-at l e n d h =
 
 pub built-row : (l : List RawRecord) → l ≡ built-rows → (n : ℕ) (d : RawRecord) (a : Record) → n < length l → a .raw ≡ getD l n d → Some a ≡ row-of built-rows n
 built-row l e n d a h p = sym (row-sound l n d a h p) ∙ ap (λ x. row-of x n) e
+
+by-place : (n : ℕ) (t : Bool) → ltb n 10 ≡ t → isSome (row-of built-rows n) ≡ t
+by-place n true e =
+    let inside : n < length built-rows = grind (arith, tells, built-length) in
+    let a : Record = record { raw = getD built-rows n row0; sound = built-each n row0 inside } in
+    ap isSome (row-sound built-rows n row0 a inside refl)
+by-place n false e =
+    let outside : length built-rows ≤ n = grind (arith, tells, built-length) in
+    ap isSome (row-past built-rows n outside)
+
+pub ten-sound-records : Ten-sound-records
+ten-sound-records n = by-place n (ltb n 10) refl

@@ -1,5 +1,5 @@
 ghost use mathlib.Core.Path.{_≡_};
-ghost use Rattle.instruction.specs.Making.{or-field, size-made, kind-made, scale-made, opmask-made, rounding-made, register-made, segment-made, prefixes-made, memory-made, kinds-made, registers-made, evex-made, instruction-of};
+ghost use Rattle.instruction.specs.Making.{or-field, size-made, kind-made, scale-made, opmask-made, rounding-made, register-made, segment-made, prefixes-made, memory-made, kinds-made, registers-made, evex-made, instruction-of, Made-where-in-range, Made-there, Made-back};
 use fault::MakingFault;
 use machine::Code;
 use machine::CodeSize;
@@ -162,6 +162,15 @@ impl EvexFields {
 impl Instruction {
     // an instruction of these fields, or refusal 61 where one is out of range
     pub fn new(raw: &RawInstruction) -> Result<Instruction, MakingFault>
+        ensures value { λ r. ⌜ r ≡ instruction-of (now (raw .entry)) ⌝ }
+        ensures where_in_range { λ _. ⌜ Made-where-in-range ⌝ }
+        ensures there { λ _. ⌜ Made-there ⌝ }
+        ensures back { λ _. ⌜ Made-back ⌝ }
+    {
+        Instruction::made(raw)
+    }
+
+    fn made(raw: &RawInstruction) -> Result<Instruction, MakingFault>
         ensures { λ r. ⌜ r ≡ instruction-of (now (raw .entry)) ⌝ }
     {
         let code_size = known_code_size(raw.code_size)?;

@@ -9,6 +9,7 @@ use lib.Dec.{leb}
 use borrow.Author.Tests.{leb-true, le-leb, lt-leb}
 use Rattle.std.specs.declared.option.Option.{Option}
 use Rattle.std.specs.declared.option.Option.the-variants.{Some, None}
+use Rattle.std.specs.Options.{isSome}
 use Rattle.machine.specs.declared.register.Register.{Register}
 use Rattle.machine.specs.Registers.{register-told, register-of}
 
@@ -31,3 +32,20 @@ told-none n false e f = refl
 pub register-above : (n : ℕ) → 180 < n → None ≡ register-of n
 unfolding register-of
 register-above n h = told-none n (leb n 180) refl (lt-leb n 180 h)
+
+told-number : (n : ℕ) (t : Bool) (e : leb n 180 ≡ t) (x : Register) → register-told n t e ≡ Some x → x .number ≡ n
+told-number n true e x p = ap (λ (o : Option Register). elim o [ Some r ↦ r .number | None ↦ n ]) (sym p)
+told-number n false e x p = grind arith
+
+-- the register of a number has that number
+pub register-back : (n : ℕ) (x : Register) → register-of n ≡ Some x → x .number ≡ n
+unfolding register-of
+register-back n x p = told-number n (leb n 180) refl x p
+
+told-within : (n : ℕ) (t : Bool) (e : leb n 180 ≡ t) → isSome (register-told n t e) ≡ t
+told-within n true e = refl
+told-within n false e = refl
+
+pub register-within : (n : ℕ) → isSome (register-of n) ≡ leb n 180
+unfolding register-of
+register-within n = told-within n (leb n 180) refl

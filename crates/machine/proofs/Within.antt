@@ -8,6 +8,8 @@ use Rattle.std.specs.Options.{isSome}
 use Rattle.std.proofs.shelf.Ways.{tells}
 use Rattle.machine.specs.CodeSizes.{size-number, sizes, size-named}
 use Rattle.machine.specs.OpKinds.{kind-number, kinds, kind-named}
+use Rattle.machine.specs.Opmasks.{opmask-number, opmasks, opmask-named}
+use Rattle.machine.specs.Scales.{scale-number, scales, scale-named}
 use Rattle.machine.specs.Roundings.{rounding-number, roundings, rounding-named}
 use Rattle.machine.specs.Segments.{segment-number, segments, segment-named}
 use Rattle.machine.proofs.Look.{look-run}
@@ -23,3 +25,9 @@ rounding-within n = look-run rounding-number roundings 0 n refl ∙ grind (arith
 
 pub segment-within : (n : ℕ) → isSome (segment-named n) ≡ (leb 71 n && leb n 76)
 segment-within n = look-run segment-number segments 71 n refl ∙ grind (arith, tells)
+
+pub scale-within : (n : ℕ) → isSome (scale-named n) ≡ leb n 3
+scale-within n = look-run scale-number scales 0 n refl ∙ grind (arith, tells)
+
+pub opmask-within : (n : ℕ) → isSome (opmask-named n) ≡ leb n 7
+opmask-within n = look-run opmask-number opmasks 0 n refl ∙ grind (arith, tells)

@@ -1,3 +1,5 @@
+pub mod Exact
 pub mod LowestIs
 pub mod OneBit
 pub mod Scales
+pub mod Shifts

@@ -1,21 +1,22 @@
--- the scan finds the lowest signed byte, and there is only one such answer
+-- The scan from -128 up finds the lowest signed byte, and no other answer is that.
 use mathlib.Core.Path.{_≡_, refl, sym, _∙_, ap, subst}
 use mathlib.Core.Bool.{Bool, true, false, cond}
 use mathlib.Core.Logic.{_⊎_, inl, inr}
-use Prim.Native.Nat.{ℕ, zero, suc, _+_}
+use Prim.Native.Nat.{ℕ, zero, suc}
 use native.Mathlib.Omega.{arith}
 use lib.IntN.{ℤ, pos, negsuc, _+ℤ_}
-use lib.Signed.{_≤ℤ_, _<ℤ_, leZ}
+use lib.Signed.{_≤ℤ_, _<ℤ_}
 use Rattle.std.proofs.shelf.Signed.{ints}
 use Rattle.std.proofs.shelf.Ways.{tells}
 use Rattle.std.specs.declared.option.Option.{Option}
 use Rattle.std.specs.declared.option.Option.the-variants.{Some, None}
-use Rattle.policy.specs.Lowest.{Lowest, eqZ, lowest-from, lowest}
+use Rattle.std.specs.Options.{isSome}
+use Rattle.policy.specs.Lowest.{Signed-byte, Lowest, eqZ, lowest-from, lowest, Reached, Shortening-is-lowest, Shortens-what-is-reached}
 
-eqZ-yes : (a b : ℤ) → eqZ a b ≡ true → a ≡ b
+pub eqZ-yes : (a b : ℤ) → eqZ a b ≡ true → a ≡ b
 eqZ-yes a b e = grind (arith, ints, tells)
 
-eqZ-no : (a b : ℤ) → eqZ a b ≡ false → a ≡ b → ⊥
+pub eqZ-no : (a b : ℤ) → eqZ a b ≡ false → a ≡ b → ⊥
 eqZ-no a b e p = grind (arith, ints, tells)
 
 above : (v u : ℤ) → v ≤ℤ u → (u ≡ v) ⊎ ((v +ℤ pos 1) ≤ℤ u)
@@ -48,7 +49,7 @@ pub lowest-is : (f : ℤ → ℤ) (d : ℤ) → Lowest f d (lowest f d)
 unfolding lowest
 lowest-is f d = small-from f d (lowest-from 256 f d (negsuc 127)) (from-is 256 (negsuc 127) f d)
 
-pub lowest-one : (f : ℤ → ℤ) (d : ℤ) (a b : Option ℤ) → Lowest f d a → Lowest f d b → a ≡ b
+lowest-one : (f : ℤ → ℤ) (d : ℤ) (a b : Option ℤ) → Lowest f d a → Lowest f d b → a ≡ b
 lowest-one f d (Some v) (Some w) p q =
     let x : v ≤ℤ w = p .2 w (q .0) (q .1) in
     let y : w ≤ℤ v = q .2 v (p .0) (p .1) in
@@ -57,5 +58,22 @@ lowest-one f d (Some v) None p q = elim (q v (p .0) (p .1)) [ ]
 lowest-one f d None (Some w) p q = elim (p w (q .0) (q .1)) [ ]
 lowest-one f d None None p q = refl
 
-pub lowest-unique : (f : ℤ → ℤ) (d : ℤ) (o : Option ℤ) → Lowest f d o → o ≡ lowest f d
-lowest-unique f d o p = lowest-one f d o (lowest f d) p (lowest-is f d)
+pub lowest-unique : (f : ℤ → ℤ) (d : ℤ) (r : Option ℤ) → Lowest f d r → r ≡ lowest f d
+lowest-unique f d r p = lowest-one f d r (lowest f d) p (lowest-is f d)
+
+-- what each answer says
+pub lowest-some : (f : ℤ → ℤ) (d v : ℤ) → lowest f d ≡ Some v → Signed-byte v × (f v ≡ d) × ((u : ℤ) → Signed-byte u → f u ≡ d → v ≤ℤ u)
+lowest-some f d v e = subst (Lowest f d) e (lowest-is f d)
+
+pub lowest-none : (f : ℤ → ℤ) (d : ℤ) → lowest f d ≡ None → (u : ℤ) → Signed-byte u → f u ≡ d → ⊥
+lowest-none f d e = subst (Lowest f d) e (lowest-is f d)
+
+pub lowest-reached : Shortens-what-is-reached
+lowest-reached f d = at (lowest f d) (lowest-is f d)
+  where
+    at : (r : Option ℤ) → Lowest f d r → (isSome r ≡ true → Reached f d) × (Reached f d → isSome r ≡ true)
+    at (Some v) p = (λ e. (v, p .0, p .1), λ q. refl)
+    at None p = (λ e. let no : ⊥ = grind arith in elim no [ ], λ q. elim (p (q .0) (q .1) (q .2)) [ ])
+
+pub shortening-is-lowest : Shortening-is-lowest
+shortening-is-lowest f d = (lowest-is f d, lowest-unique f d)

@@ -16,6 +16,7 @@ Signed-byte v = (negsuc 127 ≤ℤ v) × (v ≤ℤ pos 127)
 abbrev pub Displacement : ℤ → Type 0
 Displacement d = (negsuc 2147483647 ≤ℤ d) × (d ≤ℤ pos 2147483647)
 
+-- whether two numbers are the same
 abbrev pub eqZ : ℤ → ℤ → Bool
 eqZ a b = leZ a b && leZ b a
 
@@ -28,7 +29,7 @@ lowest-from (suc k) f d v = cond (eqZ (f v) d) (Some v) (lowest-from k f d (v +�
 unfoldable pub lowest : (ℤ → ℤ) → ℤ → Option ℤ
 lowest f d = lowest-from 256 f d (negsuc 127)
 
--- r is a signed byte that f takes to d and that is below every other, and none where no signed byte stands for d
+-- r is a signed byte that f takes to d, and below every other such byte; none where no signed byte stands for d
 abbrev pub Lowest : (ℤ → ℤ) → ℤ → Option ℤ → Type 0
 Lowest f d (Some v) = Signed-byte v × (f v ≡ d) × ((u : ℤ) → Signed-byte u → f u ≡ d → v ≤ℤ u)
 Lowest f d None = (u : ℤ) → Signed-byte u → f u ≡ d → ⊥

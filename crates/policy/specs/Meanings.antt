@@ -9,9 +9,11 @@ use Rattle.record.specs.Rules.{is-evex}
 abbrev pub scale-of : Record → Bool → ℕ
 scale-of x broadcast = cond broadcast (x .raw .nb) (x .raw .n)
 
+-- the byte itself
 abbrev pub plain-spread : ℤ → ℤ
 plain-spread byte = byte
 
+-- the byte times the scale
 abbrev pub scaled-spread : ℕ → ℤ → ℤ
 scaled-spread scale byte = byte *ℤ pos scale
 

@@ -1,10 +1,20 @@
+ghost use mathlib.Core.Path.{_≡_};
+ghost use Rattle.policy.specs.Lowest.{lowest};
 ghost use Rattle.policy.specs.Meanings.{plain-spread};
-use record::Record;
+use super::byte::signed_byte;
 use super::policy::Policy;
+use record::Record;
 
 // The byte stands for itself.
 #[derive(Clone, Copy)]
 pub struct Plain;
+
+// the byte that is the displacement
+fn same_byte(displ: i32) -> Option<i8>
+    ensures { λ r. ⌜ r ≡ lowest plain-spread displ ⌝ }
+{
+    signed_byte(displ)
+}
 
 pub impl Policy for Plain as PlainPolicy {
     ghost spread = { λ _ x broadcast. plain-spread };
@@ -14,10 +24,6 @@ pub impl Policy for Plain as PlainPolicy {
     }
 
     fn shorten(&self, record: &Record, broadcast: bool, displ: i32) -> Option<i8> {
-        if displ >= -128 && displ <= 127 {
-            Some(displ as i8)
-        } else {
-            None
-        }
+        same_byte(displ)
     }
 }

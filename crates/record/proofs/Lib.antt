@@ -1,1 +1,7 @@
+pub mod BankFacts
+pub mod FirstBytes
+pub mod ImmBytes
 pub mod Made
+pub mod ModRms
+pub mod Owners
+pub mod Soundness

@@ -1,4 +1,5 @@
 pub mod Classes
+pub mod Facts
 pub mod Flags
 pub mod Immediates
 pub mod Making

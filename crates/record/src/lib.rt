@@ -5,6 +5,7 @@ mod head;
 mod imm;
 mod making;
 mod op;
+mod parts;
 mod raw;
 mod rules;
 mod sound;

@@ -1,0 +1,4 @@
+pub mod Back
+pub mod Leaves
+pub mod Ranges
+pub mod There

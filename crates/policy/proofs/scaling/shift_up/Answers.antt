@@ -1,5 +1,0 @@
-use borrow.Author.Needs.{needs}
-use Rattle.policy.proofs.scaling.shift_up.Needs as need
-
-pub returns : need.returns
-returns c = ?

@@ -1,0 +1,3 @@
+// Text to values: case lines, which machines write, and catalogue rows, which people write.
+mod digits;
+mod number;
