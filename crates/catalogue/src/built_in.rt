@@ -28,6 +28,6 @@ impl BuiltIn {
         ensures value { λ r. ⌜ r ≡ 10 ⌝ }
         ensures sound { λ _. ⌜ Ten-sound-records ⌝ }
     {
-        10
+        10u16
     }
 }

@@ -93,6 +93,6 @@ impl Instruction {
     pub fn near_branch32(&self) -> u32
         ensures { λ r. ⌜ r ≡ low32 (now (self .entry) .«mem_displ») ⌝ }
     {
-        (self.mem_displ % 0x1_0000_0000) as u32
+        self.memory_displacement32()
     }
 }
