@@ -1,0 +1,16 @@
+// Gathering: each operand into the parts of the encoding, or its refusal with what it leaves.
+mod absolute;
+mod address;
+mod memory;
+mod memory16;
+mod parts;
+mod refusal;
+mod register;
+
+pub use parts::Displ;
+pub use parts::HeadFlags;
+pub use parts::Imm;
+pub use parts::Parts;
+pub use parts::RmPart;
+pub use parts::Sib;
+pub use refusal::Refusal;
