@@ -1,6 +1,9 @@
 pub mod Absolute
 pub mod Address
+pub mod Gathered
+pub mod Immediates
 pub mod Memory
 pub mod Memory16
 pub mod Parts
 pub mod Registers
+pub mod Steps

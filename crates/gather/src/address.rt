@@ -13,7 +13,7 @@ pub(crate) fn is64(mode: Mode) -> bool
     matches!(mode, Mode::Bits64)
 }
 
-fn mode_bytes(mode: Mode) -> u8
+pub(crate) fn mode_bytes(mode: Mode) -> u8
     ensures { λ r. ⌜ r ≡ mode-bytes mode ⌝ }
 {
     match mode {
