@@ -1,2 +1,4 @@
+pub mod Encode
+pub mod Fields
 pub mod Heads
 pub mod Lines

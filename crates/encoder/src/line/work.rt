@@ -37,3 +37,13 @@ impl Line {
         }
     }
 }
+
+impl Line {
+    // how many bytes are used
+    pub fn len(&self) -> u8
+        ensures value { λ r. ⌜ r ≡ length (used (now (self .entry))) ⌝ }
+        ensures bound { λ r. ⌜ r ≤ 31 ⌝ }
+    {
+        self.count
+    }
+}

@@ -1,0 +1,14 @@
+use mathlib.Core.Path.{_≡_, sym}
+use Prim.Native.Nat.{_≤_}
+use lib.ListN.{length, length-take}
+use native.Mathlib.Omega.{arith}
+use Rattle.std.proofs.shelf.Lists.{length-take-le}
+use Rattle.encoder.specs.Lines.{used}
+use Rattle.encoder.proofs.line.Line.len.Needs as need
+
+pub returns : need.returns
+unfolding used
+returns c =
+    let l = c .args .self .now in
+    let inside : l .count ≤ length (l .bytes) = omega (arith, l .fits, l .size) in
+    record { value = sym (length-take-le (l .count) (l .bytes) inside); bound = l .fits }

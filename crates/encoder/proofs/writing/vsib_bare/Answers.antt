@@ -1,0 +1,7 @@
+use borrow.Author.Needs.{needs}
+use Rattle.encoder.specs.Encode.{vsib-bare}
+use Rattle.encoder.proofs.writing.vsib_bare.Needs as need
+
+pub returns : need.returns
+unfolding vsib-bare
+returns c = search needs
