@@ -46,4 +46,12 @@ impl Line {
     {
         self.count
     }
+
+    // the bytes used
+    pub fn bytes(&self) -> &[u8]
+        ensures { λ r. ⌜ now r ≡ used (now (self .entry)) ⌝ }
+    {
+        let n = self.count as usize;
+        &self.bytes[0..n]
+    }
 }
