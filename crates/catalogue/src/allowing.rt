@@ -1,10 +1,17 @@
 ghost use mathlib.Core.Path.{_≡_};
 ghost use Prim.Native.Nat.{min};
+ghost use lib.Dec.{eqb};
 ghost use lib.ListN.{take};
 ghost use Rattle.catalogue.specs.Meaning.{allowed-of};
 use record::Record;
 use super::allow_list::AllowList;
 use super::catalogue::Catalogue;
+
+fn same(a: u16, b: u16) -> bool
+    ensures { λ r. ⌜ r ≡ eqb a b ⌝ }
+{
+    a == b
+}
 
 impl<C: Catalogue> AllowList<C> {
     // lets the first `count` of the numbers through, at most 32
@@ -27,7 +34,7 @@ pub impl<C: Catalogue> Catalogue for AllowList<C> as AllowListCatalogue {
 
     fn get(&self, number: u16) -> Option<Record> {
         for i in 0..self.count {
-            if self.numbers[i as usize] == number {
+            if same(self.numbers[i as usize], number) {
                 return self.inner.get(number);
             }
         }

@@ -3,6 +3,7 @@ ghost use Rattle.catalogue.specs.Built.{built-rows};
 ghost use Rattle.catalogue.specs.Meaning.{row-of, Ten-sound-records};
 use record::Record;
 use super::catalogue::Catalogue;
+use super::rows::row;
 use super::table::rows;
 
 // The built-in table. Its rows are proved sound, so that none is judged when it is asked for.
@@ -18,7 +19,7 @@ pub impl Catalogue for BuiltIn as BuiltInCatalogue {
         if at >= rows.len() {
             return None;
         }
-        Some(Record { raw: rows[at] })
+        Some(Record { raw: row(rows, at) })
     }
 }
 
@@ -28,6 +29,12 @@ impl BuiltIn {
         ensures value { λ r. ⌜ r ≡ 10 ⌝ }
         ensures sound { λ _. ⌜ Ten-sound-records ⌝ }
     {
-        10u16
+        ten()
     }
+}
+
+fn ten() -> u16
+    ensures { λ r. ⌜ r ≡ 10 ⌝ }
+{
+    10
 }

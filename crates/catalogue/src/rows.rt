@@ -1,4 +1,6 @@
 ghost use mathlib.Core.Path.{_≡_};
+ghost use Prim.Native.Nat.{_<_};
+ghost use lib.ListN.{length, getD};
 ghost use denote.Ref.{now as behind};
 ghost use Rattle.catalogue.specs.Meaning.{row-of};
 use record::RawRecord;
@@ -10,6 +12,14 @@ pub struct Rows<'a> {
     pub rows: &'a [RawRecord],
 }
 
+// the row at a place
+pub(crate) fn row(rows: &[RawRecord], at: usize) -> RawRecord
+    requires { ⌜ at < length (now rows) ⌝ }
+    ensures { λ r. ⌜ r ≡ getD (now (rows .entry)) at r ⌝ }
+{
+    rows[at]
+}
+
 pub impl<'a> Catalogue for Rows<'a> as RowsCatalogue {
     ghost means = { λ s n. row-of (behind (s .rows)) n };
 
@@ -18,7 +28,7 @@ pub impl<'a> Catalogue for Rows<'a> as RowsCatalogue {
         if at >= self.rows.len() {
             return None;
         }
-        match Record::new(self.rows[at]) {
+        match Record::new(row(self.rows, at)) {
             Ok(record) => Some(record),
             Err(_) => None,
         }

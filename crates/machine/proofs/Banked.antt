@@ -9,7 +9,7 @@ use Rattle.std.specs.declared.option.Option.the-variants.{Some, None}
 use Rattle.std.proofs.shelf.Ways.{tells}
 use Rattle.machine.specs.declared.bank.Bank.{Bank}
 use Rattle.machine.specs.declared.bank.Bank.the-variants.{Gpr8, Gpr16, Gpr32, Gpr64, Ip, Seg, Xmm, Ymm, Zmm, Mask}
-use Rattle.machine.specs.Banks.{bank-first, bank-count, bank-of, bank-index, Bank-there, Bank-back}
+use Rattle.machine.specs.Banks.{bank-first, bank-count, bank-of, place-in, bank-index, Bank-there, Bank-back}
 
 -- a register lies within the run of its bank
 pub bank-run : (n : ℕ) (b : Bank) → bank-of n ≡ Some b → (bank-first b ≤ n) × (n < bank-first b + bank-count b)
@@ -38,7 +38,7 @@ bank-holds n Zmm l h = grind (arith, tells)
 bank-holds n Mask l h = grind (arith, tells)
 
 pub index-is : (n : ℕ) (b : Bank) → bank-of n ≡ Some b → bank-index n ≡ n - bank-first b
-index-is n b e = ap (λ (o : Option Bank). elim o [ Some x ↦ n - bank-first x | None ↦ 0 ]) e
+index-is n b e = ap (λ (o : Option Bank). place-in o n) e
 
 pub bank-there : Bank-there
 bank-there n b e =
@@ -52,7 +52,7 @@ bank-back b i h =
     (here, index-is (bank-first b + i) b here ∙ omega arith)
 
 pub index-none : (n : ℕ) → bank-of n ≡ None → bank-index n ≡ 0
-index-none n e = ap (λ (o : Option Bank). elim o [ Some x ↦ n - bank-first x | None ↦ 0 ]) e
+index-none n e = ap (λ (o : Option Bank). place-in o n) e
 
 -- a place within a bank is a known register
 pub bank-fits : (b : Bank) (i : ℕ) → i < bank-count b → bank-first b + i ≤ 180

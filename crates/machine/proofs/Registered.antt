@@ -9,7 +9,7 @@ use lib.Dec.{leb}
 use borrow.Author.Tests.{leb-true, le-leb, lt-leb}
 use Rattle.std.specs.declared.option.Option.{Option}
 use Rattle.std.specs.declared.option.Option.the-variants.{Some, None}
-use Rattle.std.specs.Options.{isSome}
+use Rattle.std.specs.Options.{isSome, Cases}
 use Rattle.machine.specs.declared.register.Register.{Register}
 use Rattle.machine.specs.Registers.{register-told, register-of}
 
@@ -49,3 +49,8 @@ told-within n false e = refl
 pub register-within : (n : ℕ) → isSome (register-of n) ≡ leb n 180
 unfolding register-of
 register-within n = told-within n (leb n 180) refl
+
+-- a register of this number, or none above 180, is the register of the number
+pub register-known : (n : ℕ) (o : Option Register) → Cases o (180 < n) (λ x. x .number ≡ n) → o ≡ register-of n
+register-known n (Some x) e = register-there x ∙ ap register-of e
+register-known n None e = register-above n e

@@ -48,9 +48,14 @@ bank-of n =
     cond (ltb n 173) (Some Zmm) (
     cond (ltb n 181) (Some Mask) None))))))))))
 
+-- the place of a number in a bank, 0 where there is none
+abbrev pub place-in : Option Bank → ℕ → ℕ
+place-in (Some b) n = n - bank-first b
+place-in None n = 0
+
 -- the place of a register in its bank
 abbrev pub bank-index : ℕ → ℕ
-bank-index n = elim (bank-of n) [ Some b ↦ n - bank-first b | None ↦ 0 ]
+bank-index n = place-in (bank-of n) n
 
 -- from a register to its bank and place, and back to the register
 abbrev pub Bank-there : Type 0

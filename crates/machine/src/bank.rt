@@ -56,6 +56,12 @@ impl Bank {
         ensures value { λ r. ⌜ r ≡ bank-register self index ⌝ }
         ensures back { λ _. ⌜ Bank-back ⌝ }
     {
+        self.at(index)
+    }
+
+    fn at(self, index: u8) -> Option<Register>
+        ensures { λ r. ⌜ r ≡ bank-register self index ⌝ }
+    {
         if index < self.count() {
             Register::new(self.first() + index)
         } else {

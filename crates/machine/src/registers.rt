@@ -1,7 +1,9 @@
 ghost use mathlib.Core.Path.{_≡_};
 ghost use mathlib.Core.List.{[]};
+ghost use Prim.Native.Nat.{_<_};
 ghost use lib.ListN.{getD};
-ghost use Rattle.machine.specs.Banks.{bank-of, bank-index, Bank-there};
+ghost use Rattle.std.specs.Options.{Cases as BySome};
+ghost use Rattle.machine.specs.Banks.{bank-of, place-in, bank-index, Bank-there};
 ghost use Rattle.machine.specs.Names.{names, Name-there, Name-back};
 ghost use Rattle.machine.specs.Registers.{register-of, register-named};
 use super::bank::Bank;
@@ -9,16 +11,33 @@ use super::names::name_of;
 use super::names::number_of;
 use super::register::Register;
 
+// the place of a number in a bank, 0 where there is none
+fn place_in(bank: Option<Bank>, number: u8) -> u8
+    ensures { λ r. ⌜ r ≡ place-in bank number ⌝ }
+{
+    match bank {
+        Some(bank) => number.saturating_sub(bank.first()),
+        None => 0,
+    }
+}
+
+// a number that a register has
+fn known(number: u8) -> Option<Register>
+    ensures { λ r. ⌜ BySome r (180 < number) (λ x. x .number ≡ number) ⌝ }
+{
+    if number <= 180 {
+        Some(Register { number })
+    } else {
+        None
+    }
+}
+
 impl Register {
     // the register of a number, none above 180
     pub fn new(number: u8) -> Option<Register>
         ensures { λ r. ⌜ r ≡ register-of number ⌝ }
     {
-        if number <= 180 {
-            Some(Register { number })
-        } else {
-            None
-        }
+        known(number)
     }
 
     // the name, filled up with zeros to five places
@@ -64,9 +83,6 @@ impl Register {
         ensures value { λ r. ⌜ r ≡ bank-index (self .number) ⌝ }
         ensures there { λ _. ⌜ Bank-there ⌝ }
     {
-        match self.bank() {
-            Some(bank) => self.number - bank.first(),
-            None => 0,
-        }
+        place_in(self.bank(), self.number)
     }
 }

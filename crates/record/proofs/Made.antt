@@ -8,6 +8,7 @@ use Rattle.std.specs.declared.option.Option.the-variants.{Some, None}
 use Rattle.std.specs.declared.result.Result.{Result}
 use Rattle.std.specs.declared.result.Result.the-variants.{Ok, Err}
 use Rattle.std.specs.Options.{isSome}
+use Rattle.std.specs.Results.{Cases}
 use Rattle.fault.specs.declared.rule.Rule.{Rule}
 use Rattle.fault.specs.declared.making.MakingFault.{MakingFault}
 use Rattle.fault.specs.declared.making.MakingFault.the-variants.{Unsound}
@@ -33,3 +34,8 @@ judged-some raw rule None e n = grind arith
 
 pub made-err : (raw : RawRecord) (rule : Rule) → broken raw ≡ Some rule → Err (Unsound rule) ≡ record-of raw
 made-err raw rule n = judged-some raw rule (broken raw) refl n
+
+-- what is judged by the first broken rule is what the fields make
+pub made-judged : (raw : RawRecord) (r : Result Record MakingFault) → Cases r (λ x. (x .raw ≡ raw) × (broken raw ≡ None)) (λ e. (rule : Rule) × (e ≡ Unsound rule) × (broken raw ≡ Some rule)) → r ≡ record-of raw
+made-judged raw (Ok x) e = made-ok x raw (e .0) (e .1)
+made-judged raw (Err f) e = ap Err (e .1) ∙ made-err raw (e .0) (e .2)

@@ -31,6 +31,14 @@ impl RawRecord {
     }
 }
 
+impl RawRecord {
+    fn imm_bytes(&self) -> u8
+        ensures { λ r. ⌜ r ≡ imm-bytes (now (self .entry)) ⌝ }
+    {
+        self.operands.immediates().count()
+    }
+}
+
 // What the encoder and the reader ask of a sound record, and what follows of its being sound.
 impl Record {
     // the operand at a place
@@ -55,7 +63,7 @@ impl Record {
         ensures value { λ r. ⌜ r ≡ imm-bytes (now (self .entry) .raw) ⌝ }
         ensures few { λ _. ⌜ Imm-bytes-known ⌝ }
     {
-        self.raw.operands.immediates().count()
+        self.raw.imm_bytes()
     }
 
     // the fields; they keep every rule, and the first byte of a legacy record begins an opcode

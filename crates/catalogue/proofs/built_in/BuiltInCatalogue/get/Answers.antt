@@ -1,4 +1,6 @@
-use mathlib.Core.Path.{_≡_, refl, sym, ap}
+use mathlib.Core.Path.{_≡_, sym, ap, _∙_}
+use Rattle.std.specs.Options.{isSome}
+use Rattle.record.specs.Rules.{broken}
 use Prim.Native.Nat.{_≤_}
 use native.Mathlib.Omega.{arith}
 use lib.ListN.{length}
@@ -12,7 +14,7 @@ returns-then-at-rows c =
     sym (row-past built-rows (c .args .number) past)
 
 pub ghost-result : need.ghost-result
-ghost-result c = (built-at (c .rows-rows .result .now) (c .rows-rows .ensures) (c .args .number) _ (c .if-at-rows .left), tt)
+ghost-result c = (ap (λ x. isSome (broken x)) (c .row .ensures) ∙ built-at (c .rows-rows .result .now) (c .rows-rows .ensures) (c .args .number) (c .row .result) (c .if-at-rows .left), tt)
 
 pub returns : need.returns
-returns c = built-row (c .rows-rows .result .now) (c .rows-rows .ensures) (c .args .number) _ _ (c .if-at-rows .left) refl
+returns c = built-row (c .rows-rows .result .now) (c .rows-rows .ensures) (c .args .number) (c .row .result) _ (c .if-at-rows .left) (c .row .ensures)

@@ -1,8 +1,5 @@
-use Rattle.machine.proofs.Registered.{register-there, register-above}
+use Rattle.machine.proofs.Registered.{register-known}
 use Rattle.machine.proofs.register.Register.new.Needs as need
 
-pub returns-then-number-le180 : need.returns-then-number-le180
-returns-then-number-le180 c = register-there _
-
-pub returns-else-number-le180 : need.returns-else-number-le180
-returns-else-number-le180 c = register-above (c .args .number) (c .if-number-le180 .left)
+pub returns : need.returns
+returns c = register-known (c .args .number) (c .known .result) (c .known .ensures)
