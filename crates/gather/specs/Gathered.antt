@@ -93,6 +93,10 @@ unfoldable pub place-step : Spread → Mode → Record → Instruction → Place
 place-step sp m r i at g = elim (op-at (r .raw .operands) at) [ Some op ↦ after-step (g .fault) at (op-step sp m r i at op (g .parts)) | None ↦ g ]
 
 -- all places
-unfoldable pub gathered : Spread → Mode → Record → Instruction → Gathering
-gathered sp m r i =
+abbrev pub in-order : Spread → Mode → Record → Instruction → Gathering
+in-order sp m r i =
     place-step sp m r i Op4 (place-step sp m r i Op3 (place-step sp m r i Op2 (place-step sp m r i Op1 (place-step sp m r i Op0 (start m r)))))
+
+-- the same, shut: the layers above see the name and its laws
+unfoldable pub gathered : Spread → Mode → Record → Instruction → Gathering
+gathered sp m r i = in-order sp m r i

@@ -1,5 +1,5 @@
 ghost use mathlib.Core.Path.{_≡_};
-ghost use Rattle.gather.specs.Gathered.{group-number, group-rm, size-66, size-67, is-64, start-flags, start-parts, mode-fault, start, keep-first, after-step, place-step, gathered};
+ghost use Rattle.gather.specs.Gathered.{group-number, group-rm, size-66, size-67, is-64, start-flags, start-parts, mode-fault, start, keep-first, after-step, place-step, in-order, gathered};
 use fault::EncodeFault;
 use fault::EncodingFault;
 use fault::OperandFault;
@@ -157,6 +157,12 @@ impl Gathering {
 // all operands in the order of their places
 pub fn gather<P: Policy>(policy: &P, mode: Mode, record: &Record, instruction: &Instruction) -> Gathering
     ensures { λ r. ⌜ r ≡ gathered (spread (now (policy .entry))) mode (now («record» .entry)) (now (instruction .entry)) ⌝ }
+{
+    in_order(policy, mode, record, instruction)
+}
+
+fn in_order<P: Policy>(policy: &P, mode: Mode, record: &Record, instruction: &Instruction) -> Gathering
+    ensures { λ r. ⌜ r ≡ in-order (spread (now (policy .entry))) mode (now («record» .entry)) (now (instruction .entry)) ⌝ }
 {
     Gathering::start(mode, record)
         .add(policy, mode, record, instruction, Place::Op0)

@@ -1,6 +1,8 @@
 ghost use mathlib.Core.Path.{_≡_};
 ghost use Prim.Native.Nat.{ℕ, _<_, _≤_};
 ghost use lib.ListN.{length, getD};
+ghost use Rattle.std.specs.Options.{mapped};
+ghost use Rattle.replay.specs.Cuts.{less-last, less-first, Cut};
 use super::way::Way;
 
 // A line taken apart.
@@ -29,7 +31,9 @@ fn find(line: &[u8], byte: u8) -> usize
 }
 
 // what stands before a byte, and what after it
-fn cut(line: &[u8], byte: u8) -> (&[u8], Option<&[u8]>) {
+fn cut(line: &[u8], byte: u8) -> (&[u8], Option<&[u8]>)
+    ensures { λ r. ⌜ Cut (now (line .entry)) byte (now (r .0)) (mapped now (r .1)) ⌝ }
+{
     let at = find(line, byte);
     if at < line.len() {
         (&line[0..at], Some(&line[at + 1..]))
@@ -39,7 +43,9 @@ fn cut(line: &[u8], byte: u8) -> (&[u8], Option<&[u8]>) {
 }
 
 // a line without such a byte at its end
-fn less_last(line: &[u8], byte: u8) -> &[u8] {
+fn less_last(line: &[u8], byte: u8) -> &[u8]
+    ensures { λ r. ⌜ now r ≡ less-last (now (line .entry)) byte ⌝ }
+{
     match line {
         [rest @ .., last] if *last == byte => rest,
         _ => line,
@@ -47,7 +53,9 @@ fn less_last(line: &[u8], byte: u8) -> &[u8] {
 }
 
 // a line without such a byte at its start
-fn less_first(line: &[u8], byte: u8) -> &[u8] {
+fn less_first(line: &[u8], byte: u8) -> &[u8]
+    ensures { λ r. ⌜ now r ≡ less-first (now (line .entry)) byte ⌝ }
+{
     match line {
         [first, rest @ ..] if *first == byte => rest,
         _ => line,
@@ -57,7 +65,11 @@ fn less_first(line: &[u8], byte: u8) -> &[u8] {
 // the case and the answer of a line without its way's word
 fn asked(way: Way, line: &[u8]) -> Entry {
     match cut(line, b'=') {
-        (case, Some(answer)) => Entry::Asked(way, less_last(case, b' '), Some(less_first(answer, b' '))),
+        (case, Some(answer)) => Entry::Asked(
+            way,
+            less_last(case, b' '),
+            Some(less_first(answer, b' ')),
+        ),
         (case, None) => Entry::Asked(way, case, None),
     }
 }

@@ -1,10 +1,9 @@
+use super::answer::is_digit_of;
+use super::answer::sound;
+use super::entry::Entry;
+use super::way::Way;
 use std::io;
 use std::io::Write;
-use super::answer::sound;
-use super::encoded::encoded;
-use super::entry::Entry;
-use super::reply::Reply;
-use super::way::Way;
 use text::Case;
 use text::CaseFaultDisplay;
 
@@ -36,9 +35,9 @@ impl Judge {
             Entry::Nothing => Ok(()),
             Entry::NoWay => {
                 self.count(true);
-                writeln!(out, "line {number}: expected one of the words sound, encode and a case")
+                writeln!(out, "line {number}: expected the word sound and a case")
             }
-            Entry::Asked(way, case, expected) => self.judge(out, way, case, expected),
+            Entry::Asked(Way::Sound, case, expected) => self.judge_sound(out, case, expected),
         }
     }
 
@@ -49,7 +48,12 @@ impl Judge {
         }
     }
 
-    fn judge<W: Write>(&mut self, out: &mut W, way: Way, case: &[u8], expected: Option<&[u8]>) -> io::Result<()> {
+    fn judge_sound<W: Write>(
+        &mut self,
+        out: &mut W,
+        case: &[u8],
+        expected: Option<&[u8]>,
+    ) -> io::Result<()> {
         let number = self.line;
         let case = match Case::parse(case) {
             Ok(case) => case,
@@ -58,25 +62,19 @@ impl Judge {
                 return writeln!(out, "line {number}: {fault}");
             }
         };
-        let got = match way {
-            Way::Sound => Reply::number(sound(&case.record)),
-            Way::Encode => encoded(&case),
-        };
+        let got = sound(&case.record);
         let Some(expected) = expected else {
             self.count(false);
-            out.write_all(got.text())?;
-            return out.write_all(b"\n");
+            return writeln!(out, "{got}");
         };
-        let same = got.is(expected);
+        let same = is_digit_of(got, expected);
         self.count(!same);
         if same {
             return Ok(());
         }
         write!(out, "line {number}: expected ")?;
         out.write_all(expected)?;
-        out.write_all(b" got ")?;
-        out.write_all(got.text())?;
-        out.write_all(b"\n")
+        writeln!(out, " got {got}")
     }
 
     // the counts, where the lines name their ways

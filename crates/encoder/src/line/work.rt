@@ -44,14 +44,21 @@ impl Line {
         ensures value { λ r. ⌜ r ≡ length (used (now (self .entry))) ⌝ }
         ensures bound { λ r. ⌜ r ≤ 31 ⌝ }
     {
-        self.count
+        self.places()
+    }
+
+    fn places(&self) -> u8
+        ensures { λ r. ⌜ r ≡ now (self .entry) .count ⌝ }
+    {
+        let count = self.count;
+        count
     }
 
     // the bytes used
     pub fn bytes(&self) -> &[u8]
         ensures { λ r. ⌜ now r ≡ used (now (self .entry)) ⌝ }
     {
-        let n = self.count as usize;
+        let n = self.places() as usize;
         &self.bytes[0..n]
     }
 }

@@ -1,4 +1,4 @@
-use mathlib.Core.Path.{_≡_, sym}
+use mathlib.Core.Path.{_≡_, sym, _∙_}
 use Prim.Native.Nat.{_≤_}
 use lib.ListN.{length, length-take}
 use native.Mathlib.Omega.{arith}
@@ -11,4 +11,4 @@ unfolding used
 returns c =
     let l = c .args .self .now in
     let inside : l .count ≤ length (l .bytes) = omega (arith, l .fits, l .size) in
-    record { value = sym (length-take-le (l .count) (l .bytes) inside); bound = l .fits }
+    record { value = c .places .ensures ∙ sym (length-take-le (l .count) (l .bytes) inside); bound = omega (arith, c .places .ensures, l .fits) }
