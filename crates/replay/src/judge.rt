@@ -1,9 +1,10 @@
-use super::answer::is_digit_of;
-use super::answer::sound;
-use super::entry::Entry;
-use super::way::Way;
 use std::io;
 use std::io::Write;
+use super::answer::sound;
+use super::encoded::encoded;
+use super::entry::Entry;
+use super::reply::Reply;
+use super::way::Way;
 use text::Case;
 use text::CaseFaultDisplay;
 
@@ -35,9 +36,9 @@ impl Judge {
             Entry::Nothing => Ok(()),
             Entry::NoWay => {
                 self.count(true);
-                writeln!(out, "line {number}: expected the word sound and a case")
+                writeln!(out, "line {number}: expected one of the words sound, encode and a case")
             }
-            Entry::Asked(Way::Sound, case, expected) => self.judge_sound(out, case, expected),
+            Entry::Asked(way, case, expected) => self.judge(out, way, case, expected),
         }
     }
 
@@ -48,12 +49,7 @@ impl Judge {
         }
     }
 
-    fn judge_sound<W: Write>(
-        &mut self,
-        out: &mut W,
-        case: &[u8],
-        expected: Option<&[u8]>,
-    ) -> io::Result<()> {
+    fn judge<W: Write>(&mut self, out: &mut W, way: Way, case: &[u8], expected: Option<&[u8]>) -> io::Result<()> {
         let number = self.line;
         let case = match Case::parse(case) {
             Ok(case) => case,
@@ -62,19 +58,25 @@ impl Judge {
                 return writeln!(out, "line {number}: {fault}");
             }
         };
-        let got = sound(&case.record);
+        let got = match way {
+            Way::Sound => Reply::number(sound(&case.record)),
+            Way::Encode => encoded(&case),
+        };
         let Some(expected) = expected else {
             self.count(false);
-            return writeln!(out, "{got}");
+            out.write_all(got.text())?;
+            return out.write_all(b"\n");
         };
-        let same = is_digit_of(got, expected);
+        let same = got.is(expected);
         self.count(!same);
         if same {
             return Ok(());
         }
         write!(out, "line {number}: expected ")?;
         out.write_all(expected)?;
-        writeln!(out, " got {got}")
+        out.write_all(b" got ")?;
+        out.write_all(got.text())?;
+        out.write_all(b"\n")
     }
 
     // the counts, where the lines name their ways

@@ -1,7 +1,9 @@
 // Replays case lines: answers each, or compares the answer with the one that the line carries.
 mod answer;
+mod encoded;
 mod entry;
 mod judge;
+mod reply;
 mod way;
 
 use judge::Judge;
@@ -23,7 +25,7 @@ fn chosen(rt: &LibcRuntime) -> io::Result<Option<Way>> {
     match Way::named(word.as_bytes()) {
         Some(way) => Ok(Some(way)),
         None => {
-            eprintln!(rt, "replay: expected no argument or the word sound")?;
+            eprintln!(rt, "replay: expected no argument or one of the words sound, encode")?;
             Err(io::Error::from(io::ErrorKind::InvalidInput))
         }
     }

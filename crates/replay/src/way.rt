@@ -3,6 +3,8 @@
 pub enum Way {
     // whether its record is sound
     Sound,
+    // what its encoding comes to
+    Encode,
 }
 
 impl Way {
@@ -10,6 +12,7 @@ impl Way {
     pub fn named(word: &[u8]) -> Option<Way> {
         match word {
             b"sound" => Some(Way::Sound),
+            b"encode" => Some(Way::Encode),
             _ => None,
         }
     }

@@ -23,8 +23,9 @@ base false = 10
 -- one digit more, as long as the number stays below 2 ^ 64
 abbrev pub step-of : Bool → ℕ → ℕ → Turn
 step-of hex v b = elim (digit-of hex b) [
-    Some d ↦ cond (ltb (v * base hex + d) 18446744073709551616) (More (v * base hex + d)) TooLarge
-    | None ↦ End ]
+  | Some d ↦ cond (ltb (v * base hex + d) 18446744073709551616) (More (v * base hex + d)) TooLarge
+  | None ↦ End
+]
 
 -- the value v followed by the digits of l from `at` on, n bytes of it at most, and the place after them
 unfoldable pub digits-of : Bool → ℕ → ℕ → List ℕ → ℕ → Option (ℕ × ℕ)
@@ -32,9 +33,10 @@ digits-of hex zero v l at = Some (v, at)
 digits-of hex (suc n) v l at =
     cond (leb (length l) at) (Some (v, at))
     (elim (step-of hex v (getD l at 0)) [
-      More w ↦ digits-of hex n w l (at + 1)
+      | More w ↦ digits-of hex n w l (at + 1)
       | End ↦ Some (v, at)
-      | TooLarge ↦ None ])
+      | TooLarge ↦ None
+    ])
 
 abbrev pub minus-at : List ℕ → ℕ → Bool
 minus-at l at = eqb (getD l at 0) 45
@@ -54,5 +56,6 @@ abbrev pub number-at : List ℕ → ℕ → Option (Number × ℕ)
 number-at l at =
     cond (leb (length l) at) None
     (elim (digits-of false (length l) 0 l (start-of l at)) [
-      Some p ↦ cond (eqb (p .1) (start-of l at)) None (cond (ends-at l (p .1)) (Some (signed (minus-at l at) p)) None)
-      | None ↦ None ])
+      | Some p ↦ cond (eqb (p .1) (start-of l at)) None (cond (ends-at l (p .1)) (Some (signed (minus-at l at) p)) None)
+      | None ↦ None
+    ])

@@ -1,2 +1,12 @@
+pub mod Bytes
+pub mod CodeWords
 pub mod Digits
+pub mod Drafts
+pub mod Fields
+pub mod FlagWords
+pub mod HeadWords
+pub mod Line
 pub mod Numbers
+pub mod OperandWords
+pub mod Rows
+pub mod Values

@@ -1,11 +1,11 @@
 ghost use mathlib.Core.Path.{_≡_};
 ghost use Rattle.text.specs.Numbers.{byte-of, word-of, small-of, flag-of, kind-of, code-size-of};
+use super::digits::Number;
 use machine::Code;
 use machine::CodeSize;
 use machine::CodeSizeCode;
 use machine::OpKind;
 use machine::OpKindCode;
-use super::digits::Number;
 
 impl Number {
     // as a byte, 255 where none fits
