@@ -2,6 +2,7 @@ pub mod Absolute
 pub mod Address
 pub mod Gathered
 pub mod Immediates
+pub mod Laws
 pub mod Memory
 pub mod Memory16
 pub mod Parts

@@ -41,8 +41,13 @@ offset16 d = cond (ltb 65535 d) (refusing DisplacementU16 (plain-part 0 6 (Size2
 abbrev pub far16 : ℕ → Bool
 far16 d = ltb 65535 d && ltb d 18446744073709518848
 
+-- one byte where there is one, else two
+abbrev pub one16-of : Option ℤ → ℕ → ℕ → RmPart
+one16-of (Some v) rm low = plain-part 1 rm (Size1 (ofZ w8 v))
+one16-of None rm low = plain-part 2 rm (Size2 low)
+
 abbrev pub one16 : (ℤ → ℤ) → ℕ → ℕ → RmPart
-one16 f rm d = elim (lowest f (toZ w16 (d % 65536))) [ Some v ↦ plain-part 1 rm (Size1 (ofZ w8 v)) | None ↦ plain-part 2 rm (Size2 (d % 65536)) ]
+one16 f rm d = one16-of (lowest f (toZ w16 (d % 65536))) rm (d % 65536)
 
 -- a base: the displacement in the size asked; BP alone needs one
 abbrev pub sized16 : (ℤ → ℤ) → ℕ → ℕ → ℕ → Result RmPart Refusal

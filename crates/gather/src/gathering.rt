@@ -1,5 +1,6 @@
 ghost use mathlib.Core.Path.{_≡_};
 ghost use Rattle.gather.specs.Gathered.{group-number, group-rm, size-66, size-67, is-64, start-flags, start-parts, mode-fault, start, keep-first, after-step, place-step, in-order, gathered};
+ghost use Rattle.gather.specs.Laws.{One-byte-exactly-where-one-stands};
 use fault::EncodeFault;
 use fault::EncodingFault;
 use fault::OperandFault;
@@ -156,7 +157,8 @@ impl Gathering {
 
 // all operands in the order of their places
 pub fn gather<P: Policy>(policy: &P, mode: Mode, record: &Record, instruction: &Instruction) -> Gathering
-    ensures { λ r. ⌜ r ≡ gathered (spread (now (policy .entry))) mode (now («record» .entry)) (now (instruction .entry)) ⌝ }
+    ensures value { λ r. ⌜ r ≡ gathered (spread (now (policy .entry))) mode (now («record» .entry)) (now (instruction .entry)) ⌝ }
+    ensures one_byte { λ _. ⌜ One-byte-exactly-where-one-stands ⌝ }
 {
     in_order(policy, mode, record, instruction)
 }

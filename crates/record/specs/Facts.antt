@@ -3,7 +3,7 @@ use mathlib.Core.Path.{_≡_}
 use mathlib.Core.Bool.{Bool, true, false, cond, not, _&&_, _||_}
 use mathlib.Core.List.{List, [], _∷_, _++_}
 use Prim.Native.Nat.{ℕ, _+_, _-_, _/_, _<_, _≤_}
-use lib.Dec.{eqb}
+use lib.Dec.{eqb, leb}
 use Rattle.std.specs.declared.option.Option.{Option}
 use Rattle.std.specs.declared.option.Option.the-variants.{Some, None}
 use Rattle.machine.specs.declared.place.Place.{Place}
@@ -14,13 +14,14 @@ use Rattle.record.specs.declared.flags.Flag.the-variants as Flags
 use Rattle.record.specs.declared.head.Head.{Head}
 use Rattle.record.specs.declared.head.Head.the-variants.{Legacy}
 use Rattle.record.specs.declared.head.LegacyHead.{LegacyHead}
+use Rattle.record.specs.declared.imm.ImmShape.{ImmShape}
 use Rattle.record.specs.declared.imm.ImmShape.the-variants as Imm
 use Rattle.record.specs.declared.op.Op.{Op}
 use Rattle.record.specs.declared.op.Operands.{Operands}
 use Rattle.record.specs.declared.op.RegisterRange.{RegisterRange}
 use Rattle.record.specs.declared.raw.RawRecord.{RawRecord}
 use Rattle.record.specs.declared.sound.Record.{Record}
-use Rattle.record.specs.Classes.{belongs-at, bit, has-class}
+use Rattle.record.specs.Classes.{op-number, belongs-at, bit, has-class}
 use Rattle.record.specs.Flags.{has-flag}
 use Rattle.record.specs.Immediates.{imm-shape, imm-count}
 use Rattle.record.specs.Rules.{fields-hold, ranges-hold, slots-hold, mod-rm-holds, immediates-hold, heads-hold, modes-hold, first-byte-holds, is-legacy, is-evex, range-holds, grouped, is-prefix, is-rex}
@@ -86,6 +87,26 @@ imm-bytes r = imm-count (imm-shape (r .operands))
 -- none, one, two, four or eight
 abbrev pub Imm-bytes-known : Type 0
 Imm-bytes-known = (r : Record) → (imm-shape (r .raw .operands) ≡ Imm.Wrong → ⊥) × (imm-bytes (r .raw) ≤ 8)
+
+-- how many operands the immediate field has room for
+abbrev pub imm-slots : ImmShape → ℕ
+imm-slots Imm.Nothing = 0
+imm-slots Imm.Ib = 1
+imm-slots Imm.IbIb = 2
+imm-slots Imm.Id = 1
+imm-slots Imm.Iq = 1
+imm-slots (Imm.J s) = 1
+imm-slots Imm.Wrong = 0
+
+-- kinds 9 to 12
+abbrev pub is-immediate : Option Op → Bool
+is-immediate (Some o) = leb 9 (op-number o)
+is-immediate None = false
+
+-- each immediate slot, the first and the second, has one owner and no operand is left over
+abbrev pub Immediates-owned-once : Type 0
+Immediates-owned-once =
+    (r : Record) → imm-slots (imm-shape (r .raw .operands)) ≡ bit (is-immediate (r .raw .operands .op0)) + bit (is-immediate (r .raw .operands .op1)) + bit (is-immediate (r .raw .operands .op2)) + bit (is-immediate (r .raw .operands .op3)) + bit (is-immediate (r .raw .operands .op4))
 
 -- the first byte after prefixes, mandatory byte and REX of a legacy record, under an embedded register's low three bits
 abbrev pub first-byte-of : RawRecord → LegacyHead → ℕ → ℕ

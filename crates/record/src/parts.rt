@@ -1,5 +1,5 @@
 ghost use mathlib.Core.Path.{_≡_};
-ghost use Rattle.record.specs.Facts.{op-at, has-mod-rm, imm-bytes, Rules-kept, Slots-owned-once, Mod-rm-follows, Imm-bytes-known, First-byte-begins, Banks-known};
+ghost use Rattle.record.specs.Facts.{op-at, has-mod-rm, imm-bytes, Rules-kept, Slots-owned-once, Mod-rm-follows, Imm-bytes-known, Immediates-owned-once, First-byte-begins, Banks-known};
 use machine::Place;
 use super::class::Class;
 use super::op::Op;
@@ -62,6 +62,7 @@ impl Record {
     pub fn immediate_bytes(&self) -> u8
         ensures value { λ r. ⌜ r ≡ imm-bytes (now (self .entry) .raw) ⌝ }
         ensures few { λ _. ⌜ Imm-bytes-known ⌝ }
+        ensures once { λ _. ⌜ Immediates-owned-once ⌝ }
     {
         self.raw.imm_bytes()
     }
