@@ -169,6 +169,9 @@ abbrev pub refused-with : EncodingFault → Encoding-of
 refused-with f = record { bytes = []; answer = Err (Encoding f) }
 
 -- the mode first, then the settings, then the steps
+abbrev pub by-mode : Spread → RawSettings → ℕ → Record → Instruction → Bool → Option Mode → Encoding-of
+by-mode sp s address r i known (Some m) = cond known (steps-of sp (settings-of s) m address r i) (refused-with E.Setting)
+by-mode sp s address r i known None = refused-with E.Mode
+
 unfoldable pub encode-of : Spread → RawSettings → ℕ → ℕ → Record → Instruction → Encoding-of
-encode-of sp s mode address r i =
-    elim (mode-named mode) [ Some m ↦ cond (settings-known s) (steps-of sp (settings-of s) m address r i) (refused-with E.Setting) | None ↦ refused-with E.Mode ]
+encode-of sp s mode address r i = by-mode sp s address r i (settings-known s) (mode-named mode)

@@ -1,4 +1,5 @@
 pub mod Encode
 pub mod Fields
 pub mod Heads
+pub mod Laws
 pub mod Lines

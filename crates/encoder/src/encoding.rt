@@ -6,6 +6,7 @@ ghost use lib.ListN.{length};
 ghost use Rattle.fault.specs.declared.encoding.EncodingFault.the-variants.{RipDistance, BranchDistance, TooLong, VsibWithoutIndex, MemoryWithRounding};
 ghost use Rattle.encoder.specs.Lines.{used};
 ghost use Rattle.encoder.specs.Encode.{first-of, refuse-if, head-bytes, head-fault, code-bytes, displ-bytes-onto, rip-far, imm-bytes-onto, branch-far, vsib-bare, rounded-memory, answer-of, steps-of, settings-known, settings-of, encode-of, refused-with, finished-bytes, finished-fault};
+ghost use Rattle.encoder.specs.Laws.{Length-without-address, Answer-is-length};
 use fault::EncodeFault;
 use fault::EncodingFault;
 use gather::Gathering;
@@ -156,6 +157,23 @@ fn refused(fault: EncodingFault) -> Encoded
 
 // the bytes of an instruction under a record, and their count or the first refusal
 pub fn encode<P: Policy>(
+    policy: &P,
+    settings: RawSettings,
+    mode: u8,
+    address: u64,
+    record: &Record,
+    instruction: &Instruction,
+) -> Encoded
+    ensures bytes { λ r. ⌜ used (r .line) ≡ encode-of (spread (now (policy .entry))) settings mode address (now («record» .entry)) (now (instruction .entry)) .bytes ⌝ }
+    ensures answer { λ r. ⌜ r .result ≡ encode-of (spread (now (policy .entry))) settings mode address (now («record» .entry)) (now (instruction .entry)) .answer ⌝ }
+    ensures no_address { λ _. ⌜ Length-without-address ⌝ }
+    ensures lengths { λ _. ⌜ Answer-is-length ⌝ }
+{
+    checked(policy, settings, mode, address, record, instruction)
+}
+
+// mode and settings first, then the steps
+fn checked<P: Policy>(
     policy: &P,
     settings: RawSettings,
     mode: u8,

@@ -1,15 +1,5 @@
-use borrow.Author.Needs.{needs}
-use Rattle.encoder.specs.Encode.{encode-of}
+use Rattle.encoder.proofs.Lengths.{length-without-address, answer-is-length}
 use Rattle.encoder.proofs.encoding.encode.Needs as need
 
-pub returns-in-rest : need.returns-in-rest
-unfolding encode-of
-returns-in-rest g c = search needs
-
-pub returns-then-not-known : need.returns-then-not-known
-unfolding encode-of
-returns-then-not-known g c = search needs
-
 pub returns : need.returns
-unfolding encode-of
-returns g c = search needs
+returns g c = record { bytes = c .checked .ensures .bytes; answer = c .checked .ensures .answer; no-address = length-without-address; lengths = answer-is-length }
