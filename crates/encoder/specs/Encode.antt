@@ -96,7 +96,7 @@ branch-far address p l = imm-far (address-behind address l) (p .imm)
 
 -- Departures.
 
-abbrev pub base-alone : Instruction → Bool
+unfoldable pub base-alone : Instruction → Bool
 base-alone i = not (eqb (i .memory .base .number) 0) && eqb (i .memory .index .number) 0
 
 -- an address with a vector index has a base and no index

@@ -155,7 +155,10 @@ fn or5(a: bool, b: bool, c: bool, d: bool, e: bool) -> bool
 pub(crate) fn vsib_bare(record: &Record, instruction: &Instruction) -> bool
     ensures { λ r. ⌜ r ≡ vsib-bare (now («record» .entry) .raw) (now (instruction .entry)) ⌝ }
 {
-    and(base_alone(instruction), record.raw.operands.has(Class::Vector))
+    if !base_alone(instruction) {
+        return false;
+    }
+    record.raw.operands.has(Class::Vector)
 }
 
 fn belongs_at(place: Option<Op>, class: Class) -> bool
@@ -203,5 +206,8 @@ fn rounds_evex(record: &Record, instruction: &Instruction) -> bool
 pub(crate) fn rounded_memory(record: &Record, instruction: &Instruction) -> bool
     ensures { λ r. ⌜ r ≡ rounded-memory (now («record» .entry) .raw) (now (instruction .entry)) ⌝ }
 {
-    and(rounds_evex(record, instruction), uses_memory(record, instruction))
+    if !rounds_evex(record, instruction) {
+        return false;
+    }
+    uses_memory(record, instruction)
 }

@@ -5,6 +5,8 @@ use lib.Dec.{eqb}
 use lib.IntN.{ℤ, pos, negsuc}
 use Rattle.std.specs.declared.option.Option.{Option}
 use Rattle.std.specs.declared.option.Option.the-variants.{Some, None}
+use Rattle.std.specs.declared.result.Result.{Result}
+use Rattle.std.specs.declared.result.Result.the-variants.{Ok, Err}
 use Rattle.fault.specs.declared.encode.EncodeFault.{EncodeFault}
 use Rattle.fault.specs.declared.encode.EncodeFault.the-variants.{Operand, Encoding}
 use Rattle.fault.specs.declared.encoding.EncodingFault.the-variants as E
@@ -27,10 +29,9 @@ use Rattle.gather.specs.declared.parts.HeadFlags.{HeadFlags}
 use Rattle.gather.specs.declared.parts.Imm.the-variants as Imms
 use Rattle.gather.specs.declared.parts.Parts.{Parts}
 use Rattle.gather.specs.declared.parts.RmPart.{RmPart}
-use Rattle.gather.specs.declared.step.Step.{Step}
 use Rattle.gather.specs.Address.{is64, mode-bytes}
 use Rattle.gather.specs.Parts.{plain-part, blank}
-use Rattle.gather.specs.Steps.{Spread, op-step}
+use Rattle.gather.specs.Steps.{Spread, Step, told, op-step}
 
 -- a group's number, 0 for none
 abbrev pub group-number : ℤ → ℕ
@@ -80,13 +81,13 @@ start m r =
     record { parts = start-parts m (r .raw); fault = mode-fault (is64 m) (has-flag (r .raw .«enc_flags3») Flags.Bit16Or32) (has-flag (r .raw .«enc_flags3») Flags.Bit64) }
 
 -- the first refusal is kept
-abbrev pub keep-first : Option EncodeFault → Place → Option OperandFault → Option EncodeFault
-keep-first (Some e) at f = Some e
-keep-first None at (Some f) = Some (Operand at f)
-keep-first None at None = None
+abbrev pub keep-first : Option EncodeFault → Place → Result (Unit {0}) OperandFault → Option EncodeFault
+keep-first (Some e) at r = Some e
+keep-first None at (Err f) = Some (Operand at f)
+keep-first None at (Ok u) = None
 
 abbrev pub after-step : Option EncodeFault → Place → Step → Gathering
-after-step f at s = record { parts = s .parts; fault = keep-first f at (s .fault) }
+after-step f at s = record { parts = s .parts; fault = keep-first f at (told s) }
 
 -- the operand at a place, where there is one
 unfoldable pub place-step : Spread → Mode → Record → Instruction → Place → Gathering → Gathering

@@ -31,7 +31,6 @@ use Rattle.gather.specs.declared.parts.Parts.{Parts}
 use Rattle.gather.specs.declared.parts.RmPart.{RmPart}
 use Rattle.gather.specs.declared.refusal.Refusal.{Refusal}
 use Rattle.gather.specs.declared.register.RegPart.{RegPart}
-use Rattle.gather.specs.declared.step.Step.{Step}
 use Rattle.gather.specs.Absolute.{absolute}
 use Rattle.gather.specs.Address.{address-bytes, mode-bytes}
 use Rattle.gather.specs.Immediates.{byte-operand, expecting, wide-operand, branch-operand}
@@ -39,6 +38,19 @@ use Rattle.gather.specs.Memory.{mem}
 use Rattle.gather.specs.Memory16.{mem16}
 use Rattle.gather.specs.Parts.{blank, refusing}
 use Rattle.gather.specs.Registers.{is-register, is-memory, ranged-register, register-operand, rm-register}
+
+-- the parts after an operand, and its refusal where there is one
+pub record Step : Type 0 where
+  pub parts : Parts
+  pub fault : Option OperandFault
+
+-- the refusal as an answer
+abbrev pub told-of : Option OperandFault → Result (Unit {0}) OperandFault
+told-of (Some f) = Err f
+told-of None = Ok tt
+
+abbrev pub told : Step → Result (Unit {0}) OperandFault
+told s = told-of (s .fault)
 
 abbrev pub done : Parts → Step
 done p = record { parts = p; fault = None }
@@ -138,8 +150,12 @@ abbrev pub rm-step : OpKind → Parts → Step → Step → Step
 rm-step k p register memory = cond (is-register k) register (cond (is-memory k) memory (faulty p F.NeitherRegisterNorMemory))
 
 -- one register, which no byte carries
-abbrev pub fixed-step : ℕ → OpKind → ℕ → Parts → Step
-fixed-step wanted k n p = cond (not (is-register k)) (faulty p F.OpKind) (cond (eqb wanted n) (done p) (faulty p F.FixedRegister))
+abbrev pub fixed-told : ℕ → OpKind → ℕ → Result (Unit {0}) OperandFault
+fixed-told wanted k n = cond (not (is-register k)) (Err F.OpKind) (cond (eqb wanted n) (Ok tt) (Err F.FixedRegister))
+
+abbrev pub fixed-step : Parts → Result (Unit {0}) OperandFault → Step
+fixed-step p (Ok u) = done p
+fixed-step p (Err f) = faulty p f
 
 -- one operand
 unfoldable pub op-step : Spread → Mode → Record → Instruction → Place → Op → Parts → Step
@@ -149,7 +165,7 @@ op-step sp m r i at (Vsib range) p = mem-only (op-kind-at i at) p (rm-memory sp 
 op-step sp m r i at O p = offset-step p (absolute m (op-kind-at i at) i)
 op-step sp m r i at (ModRmReg range) p = register-step p (put-reg p) (register-operand m range (op-kind-at i at) (op-register-at i at))
 op-step sp m r i at (RegEmbed8 range) p = register-step p (put-embedded p) (register-operand m range (op-kind-at i at) (op-register-at i at))
-op-step sp m r i at (Reg n) p = fixed-step n (op-kind-at i at) (op-register-at i at) p
+op-step sp m r i at (Reg n) p = fixed-step p (fixed-told n (op-kind-at i at) (op-register-at i at))
 op-step sp m r i at (Hx range) p = register-step p (put-vvvv p) (register-operand m range (op-kind-at i at) (op-register-at i at))
 op-step sp m r i at (Ib k) p = imm-step p (byte-operand (p .imm) k (op-kind-at i at) i)
 op-step sp m r i at (Id k) p = imm-step p (expecting k (op-kind-at i at) (Imms.Size4 (i .immediate)))

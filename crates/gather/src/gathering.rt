@@ -1,5 +1,5 @@
 ghost use mathlib.Core.Path.{_≡_};
-ghost use Rattle.gather.specs.Gathered.{group-number, group-rm, size-66, size-67, is-64, start-flags, start-parts, mode-fault, start, keep-first, after-step, place-step, in-order, gathered};
+ghost use Rattle.gather.specs.Gathered.{group-number, group-rm, size-66, size-67, is-64, start-flags, start-parts, mode-fault, start, keep-first, place-step, in-order, gathered};
 ghost use Rattle.gather.specs.Laws.{One-byte-exactly-where-one-stands};
 use fault::EncodeFault;
 use fault::EncodingFault;
@@ -19,7 +19,6 @@ use super::parts::HeadFlags;
 use super::parts::Imm;
 use super::parts::Parts;
 use super::parts::RmPart;
-use super::step::Step;
 
 // Operands on their way into the parts, with the first refusal. It is moved on when the head is written, so that no
 // operand can be added behind it.
@@ -102,13 +101,13 @@ fn mode_fault(m64: bool, old: bool, new: bool) -> Option<EncodeFault>
     None
 }
 
-fn keep_first(before: Option<EncodeFault>, place: Place, fault: Option<OperandFault>) -> Option<EncodeFault>
-    ensures { λ r. ⌜ r ≡ keep-first before place fault ⌝ }
+fn keep_first(before: Option<EncodeFault>, place: Place, told: Result<(), OperandFault>) -> Option<EncodeFault>
+    ensures { λ r. ⌜ r ≡ keep-first before place told ⌝ }
 {
-    match (before, fault) {
+    match (before, told) {
         (Some(first), _) => Some(first),
-        (None, Some(fault)) => Some(EncodeFault::Operand(place, fault)),
-        (None, None) => None,
+        (None, Err(fault)) => Some(EncodeFault::Operand(place, fault)),
+        (None, Ok(_)) => None,
     }
 }
 
@@ -124,33 +123,20 @@ impl Gathering {
         }
     }
 
-    fn after(before: Option<EncodeFault>, place: Place, step: Step) -> Gathering
-        ensures { λ r. ⌜ r ≡ after-step before place step ⌝ }
-    {
-        Gathering {
-            parts: step.parts,
-            fault: keep_first(before, place, step.fault),
-        }
-    }
-
     // the operand at a place, where there is one
     pub(crate) fn add<P: Policy>(
-        self,
+        &mut self,
         policy: &P,
         mode: Mode,
         record: &Record,
         instruction: &Instruction,
         place: Place,
-    ) -> Gathering
-        ensures { λ r. ⌜ r ≡ place-step (spread (now (policy .entry))) mode (now («record» .entry)) (now (instruction .entry)) place self ⌝ }
+    )
+        ensures { λ _. ⌜ now (self .exit) ≡ place-step (spread (now (policy .entry))) mode (now («record» .entry)) (now (instruction .entry)) place (now (self .entry)) ⌝ }
     {
-        match record.op(place) {
-            Some(op) => {
-                let Gathering { parts, fault } = self;
-                let step = op_step(policy, mode, record, instruction, place, op, parts);
-                Gathering::after(fault, place, step)
-            }
-            None => self,
+        if let Some(op) = record.op(place) {
+            let told = op_step(policy, mode, record, instruction, place, op, &mut self.parts);
+            self.fault = keep_first(self.fault, place, told);
         }
     }
 }
@@ -166,10 +152,11 @@ pub fn gather<P: Policy>(policy: &P, mode: Mode, record: &Record, instruction: &
 fn in_order<P: Policy>(policy: &P, mode: Mode, record: &Record, instruction: &Instruction) -> Gathering
     ensures { λ r. ⌜ r ≡ in-order (spread (now (policy .entry))) mode (now («record» .entry)) (now (instruction .entry)) ⌝ }
 {
-    Gathering::start(mode, record)
-        .add(policy, mode, record, instruction, Place::Op0)
-        .add(policy, mode, record, instruction, Place::Op1)
-        .add(policy, mode, record, instruction, Place::Op2)
-        .add(policy, mode, record, instruction, Place::Op3)
-        .add(policy, mode, record, instruction, Place::Op4)
+    let mut gathering = Gathering::start(mode, record);
+    gathering.add(policy, mode, record, instruction, Place::Op0);
+    gathering.add(policy, mode, record, instruction, Place::Op1);
+    gathering.add(policy, mode, record, instruction, Place::Op2);
+    gathering.add(policy, mode, record, instruction, Place::Op3);
+    gathering.add(policy, mode, record, instruction, Place::Op4);
+    gathering
 }

@@ -2,7 +2,7 @@
 ghost use mathlib.Core.Path.{_≡_};
 ghost use mathlib.Core.Bool.{false};
 ghost use Rattle.std.specs.declared.option.Option.the-variants.{None};
-ghost use Rattle.gather.specs.Steps.{broadcasts, mem-sized, memory-step, register-step, imm-step, branch-step, offset-step, rm-memory, mem-only, rm-step, fixed-step, op-step, put-rm-register, put-reg, put-embedded, put-vvvv};
+ghost use Rattle.gather.specs.Steps.{broadcasts, mem-sized, memory-step, register-step, imm-step, branch-step, offset-step, rm-memory, mem-only, rm-step, fixed-told, told, op-step, put-rm-register, put-reg, put-embedded, put-vvvv};
 ghost use Rattle.gather.specs.Registers.{ranged-register, register-operand};
 use fault::OperandFault;
 use instruction::Instruction;
@@ -36,7 +36,6 @@ use super::register::is_memory;
 use super::register::is_register;
 use super::register::ranged_register;
 use super::register::register_operand;
-use super::step::Step;
 
 fn broadcasts(record: &Record, instruction: &Instruction) -> bool
     ensures { λ r. ⌜ r ≡ broadcasts (now («record» .entry)) (now (instruction .entry)) ⌝ }
@@ -67,90 +66,98 @@ fn mem_sized<P: Policy>(
 }
 
 impl Parts {
-    fn memory_step(self, p67: bool, broadcast: bool, part: Result<RmPart, Refusal>) -> Step
-        ensures { λ r. ⌜ r ≡ memory-step self p67 broadcast part ⌝ }
+    fn memory_step(&mut self, p67: bool, broadcast: bool, part: Result<RmPart, Refusal>) -> Result<(), OperandFault>
+        ensures parts { λ _. ⌜ now (self .exit) ≡ memory-step (now (self .entry)) p67 broadcast part .parts ⌝ }
+        ensures told { λ r. ⌜ r ≡ told (memory-step (now (self .entry)) p67 broadcast part) ⌝ }
     {
-        let flags = self.flags.addressing(p67, broadcast);
         match part {
-            Ok(part) => Step::done(self.with_rm(part).with_flags(flags)),
-            Err(refusal) => Step::faulty(self.with_rm(refusal.left).with_flags(flags), refusal.fault),
+            Ok(part) => {
+                self.put_memory(part, p67, broadcast);
+                Ok(())
+            }
+            Err(refusal) => {
+                self.put_memory(refusal.left, p67, broadcast);
+                Err(refusal.fault)
+            }
         }
     }
 
-    fn imm_step(self, imm: Result<Imm, OperandFault>) -> Step
-        ensures { λ r. ⌜ r ≡ imm-step self imm ⌝ }
+    fn imm_step(&mut self, imm: Result<Imm, OperandFault>) -> Result<(), OperandFault>
+        ensures parts { λ _. ⌜ now (self .exit) ≡ imm-step (now (self .entry)) imm .parts ⌝ }
+        ensures told { λ r. ⌜ r ≡ told (imm-step (now (self .entry)) imm) ⌝ }
     {
-        match imm {
-            Ok(imm) => Step::done(self.with_imm(imm)),
-            Err(fault) => Step::faulty(self, fault),
-        }
+        self.put_imm(imm?);
+        Ok(())
     }
 
-    fn branch_step(self, branch: Result<Branch, OperandFault>) -> Step
-        ensures { λ r. ⌜ r ≡ branch-step self branch ⌝ }
+    fn branch_step(&mut self, branch: Result<Branch, OperandFault>) -> Result<(), OperandFault>
+        ensures parts { λ _. ⌜ now (self .exit) ≡ branch-step (now (self .entry)) branch .parts ⌝ }
+        ensures told { λ r. ⌜ r ≡ told (branch-step (now (self .entry)) branch) ⌝ }
     {
-        match branch {
-            Ok(branch) => Step::done(self.put_branch(branch)),
-            Err(fault) => Step::faulty(self, fault),
-        }
+        self.put_branch(branch?);
+        Ok(())
     }
 
-    fn offset_step(self, offset: Result<Offset, OffsetRefusal>) -> Step
-        ensures { λ r. ⌜ r ≡ offset-step self offset ⌝ }
+    fn offset_step(&mut self, offset: Result<Offset, OffsetRefusal>) -> Result<(), OperandFault>
+        ensures parts { λ _. ⌜ now (self .exit) ≡ offset-step (now (self .entry)) offset .parts ⌝ }
+        ensures told { λ r. ⌜ r ≡ told (offset-step (now (self .entry)) offset) ⌝ }
     {
         match offset {
-            Ok(offset) => Step::done(self.put_offset(offset)),
-            Err(refusal) => Step::faulty(self.put_offset(refusal.left), refusal.fault),
+            Ok(offset) => {
+                self.put_offset(offset);
+                Ok(())
+            }
+            Err(refusal) => {
+                self.put_offset(refusal.left);
+                Err(refusal.fault)
+            }
         }
     }
 
-    fn rm_register_step(self, register: Result<RegPart, OperandFault>) -> Step
-        ensures { λ r. ⌜ r ≡ register-step self (put-rm-register self) register ⌝ }
+    fn rm_register_step(&mut self, register: Result<RegPart, OperandFault>) -> Result<(), OperandFault>
+        ensures parts { λ _. ⌜ now (self .exit) ≡ register-step (now (self .entry)) (put-rm-register (now (self .entry))) register .parts ⌝ }
+        ensures told { λ r. ⌜ r ≡ told (register-step (now (self .entry)) (put-rm-register (now (self .entry))) register) ⌝ }
     {
-        match register {
-            Ok(register) => Step::done(self.put_rm_register(register)),
-            Err(fault) => Step::faulty(self, fault),
-        }
+        self.put_rm_register(register?);
+        Ok(())
     }
 
-    fn reg_step(self, register: Result<RegPart, OperandFault>) -> Step
-        ensures { λ r. ⌜ r ≡ register-step self (put-reg self) register ⌝ }
+    fn reg_step(&mut self, register: Result<RegPart, OperandFault>) -> Result<(), OperandFault>
+        ensures parts { λ _. ⌜ now (self .exit) ≡ register-step (now (self .entry)) (put-reg (now (self .entry))) register .parts ⌝ }
+        ensures told { λ r. ⌜ r ≡ told (register-step (now (self .entry)) (put-reg (now (self .entry))) register) ⌝ }
     {
-        match register {
-            Ok(register) => Step::done(self.put_reg(register)),
-            Err(fault) => Step::faulty(self, fault),
-        }
+        self.put_reg(register?);
+        Ok(())
     }
 
-    fn embedded_step(self, register: Result<RegPart, OperandFault>) -> Step
-        ensures { λ r. ⌜ r ≡ register-step self (put-embedded self) register ⌝ }
+    fn embedded_step(&mut self, register: Result<RegPart, OperandFault>) -> Result<(), OperandFault>
+        ensures parts { λ _. ⌜ now (self .exit) ≡ register-step (now (self .entry)) (put-embedded (now (self .entry))) register .parts ⌝ }
+        ensures told { λ r. ⌜ r ≡ told (register-step (now (self .entry)) (put-embedded (now (self .entry))) register) ⌝ }
     {
-        match register {
-            Ok(register) => Step::done(self.put_embedded(register)),
-            Err(fault) => Step::faulty(self, fault),
-        }
+        self.put_embedded(register?);
+        Ok(())
     }
 
-    fn vvvv_step(self, register: Result<RegPart, OperandFault>) -> Step
-        ensures { λ r. ⌜ r ≡ register-step self (put-vvvv self) register ⌝ }
+    fn vvvv_step(&mut self, register: Result<RegPart, OperandFault>) -> Result<(), OperandFault>
+        ensures parts { λ _. ⌜ now (self .exit) ≡ register-step (now (self .entry)) (put-vvvv (now (self .entry))) register .parts ⌝ }
+        ensures told { λ r. ⌜ r ≡ told (register-step (now (self .entry)) (put-vvvv (now (self .entry))) register) ⌝ }
     {
-        match register {
-            Ok(register) => Step::done(self.put_vvvv(register)),
-            Err(fault) => Step::faulty(self, fault),
-        }
+        self.put_vvvv(register?);
+        Ok(())
     }
+}
 
-    fn fixed_step(self, wanted: u8, kind: OpKind, register: Register) -> Step
-        ensures { λ r. ⌜ r ≡ fixed-step wanted kind (register .number) self ⌝ }
-    {
-        if !is_register(kind) {
-            return Step::faulty(self, OperandFault::OpKind);
-        }
-        if wanted == register.number {
-            Step::done(self)
-        } else {
-            Step::faulty(self, OperandFault::FixedRegister)
-        }
+// one register, which no byte carries
+fn fixed_told(wanted: u8, kind: OpKind, register: Register) -> Result<(), OperandFault>
+    ensures { λ r. ⌜ r ≡ fixed-told wanted kind (register .number) ⌝ }
+{
+    if !is_register(kind) {
+        return Err(OperandFault::OpKind);
+    }
+    if wanted == register.number {
+        Ok(())
+    } else {
+        Err(OperandFault::FixedRegister)
     }
 }
 
@@ -162,9 +169,10 @@ fn rm_memory<P: Policy>(
     instruction: &Instruction,
     must_use_sib: bool,
     vsib: Option<RegisterRange>,
-    parts: Parts,
-) -> Step
-    ensures { λ r. ⌜ r ≡ rm-memory (spread (now (policy .entry))) mode (now («record» .entry)) (now (instruction .entry)) «must_use_sib» vsib parts ⌝ }
+    parts: &mut Parts,
+) -> Result<(), OperandFault>
+    ensures parts { λ _. ⌜ now (parts .exit) ≡ rm-memory (spread (now (policy .entry))) mode (now («record» .entry)) (now (instruction .entry)) «must_use_sib» vsib (now (parts .entry)) .parts ⌝ }
+    ensures told { λ r. ⌜ r ≡ told (rm-memory (spread (now (policy .entry))) mode (now («record» .entry)) (now (instruction .entry)) «must_use_sib» vsib (now (parts .entry))) ⌝ }
 {
     let broadcast = broadcasts(record, instruction);
     let bytes = address_bytes(mode, instruction);
@@ -182,15 +190,16 @@ fn mem_only_step<P: Policy>(
     kind: OpKind,
     must_use_sib: bool,
     vsib: Option<RegisterRange>,
-    parts: Parts,
-) -> Step
-    ensures { λ r. ⌜ r ≡ mem-only kind parts (rm-memory (spread (now (policy .entry))) mode (now («record» .entry)) (now (instruction .entry)) «must_use_sib» vsib parts) ⌝ }
+    parts: &mut Parts,
+) -> Result<(), OperandFault>
+    ensures parts { λ _. ⌜ now (parts .exit) ≡ mem-only kind (now (parts .entry)) (rm-memory (spread (now (policy .entry))) mode (now («record» .entry)) (now (instruction .entry)) «must_use_sib» vsib (now (parts .entry))) .parts ⌝ }
+    ensures told { λ r. ⌜ r ≡ told (mem-only kind (now (parts .entry)) (rm-memory (spread (now (policy .entry))) mode (now («record» .entry)) (now (instruction .entry)) «must_use_sib» vsib (now (parts .entry)))) ⌝ }
 {
     if is_register(kind) {
-        return Step::faulty(parts, OperandFault::RegisterNotAllowed);
+        return Err(OperandFault::RegisterNotAllowed);
     }
     if !is_memory(kind) {
-        return Step::faulty(parts, OperandFault::NeitherRegisterNorMemory);
+        return Err(OperandFault::NeitherRegisterNorMemory);
     }
     rm_memory(policy, mode, record, instruction, must_use_sib, vsib, parts)
 }
@@ -204,15 +213,16 @@ fn rm_step<P: Policy>(
     kind: OpKind,
     register: Register,
     range: RegisterRange,
-    parts: Parts,
-) -> Step
-    ensures { λ r. ⌜ r ≡ rm-step kind parts (register-step parts (put-rm-register parts) (ranged-register mode range (register .number))) (rm-memory (spread (now (policy .entry))) mode (now («record» .entry)) (now (instruction .entry)) false None parts) ⌝ }
+    parts: &mut Parts,
+) -> Result<(), OperandFault>
+    ensures parts { λ _. ⌜ now (parts .exit) ≡ rm-step kind (now (parts .entry)) (register-step (now (parts .entry)) (put-rm-register (now (parts .entry))) (ranged-register mode range (register .number))) (rm-memory (spread (now (policy .entry))) mode (now («record» .entry)) (now (instruction .entry)) false None (now (parts .entry))) .parts ⌝ }
+    ensures told { λ r. ⌜ r ≡ told (rm-step kind (now (parts .entry)) (register-step (now (parts .entry)) (put-rm-register (now (parts .entry))) (ranged-register mode range (register .number))) (rm-memory (spread (now (policy .entry))) mode (now («record» .entry)) (now (instruction .entry)) false None (now (parts .entry)))) ⌝ }
 {
     if is_register(kind) {
         return parts.rm_register_step(ranged_register(mode, range, register));
     }
     if !is_memory(kind) {
-        return Step::faulty(parts, OperandFault::NeitherRegisterNorMemory);
+        return Err(OperandFault::NeitherRegisterNorMemory);
     }
     rm_memory(policy, mode, record, instruction, false, None, parts)
 }
@@ -225,9 +235,10 @@ pub(crate) fn op_step<P: Policy>(
     instruction: &Instruction,
     place: Place,
     op: Op,
-    parts: Parts,
-) -> Step
-    ensures { λ r. ⌜ r ≡ op-step (spread (now (policy .entry))) mode (now («record» .entry)) (now (instruction .entry)) place op parts ⌝ }
+    parts: &mut Parts,
+) -> Result<(), OperandFault>
+    ensures parts { λ _. ⌜ now (parts .exit) ≡ op-step (spread (now (policy .entry))) mode (now («record» .entry)) (now (instruction .entry)) place op (now (parts .entry)) .parts ⌝ }
+    ensures told { λ r. ⌜ r ≡ told (op-step (spread (now (policy .entry))) mode (now («record» .entry)) (now (instruction .entry)) place op (now (parts .entry))) ⌝ }
 {
     let kind = instruction.op_kind(place);
     let register = instruction.op_register(place);
@@ -238,9 +249,12 @@ pub(crate) fn op_step<P: Policy>(
         Op::O => parts.offset_step(absolute(mode, kind, instruction)),
         Op::ModRmReg(range) => parts.reg_step(register_operand(mode, range, kind, register)),
         Op::RegEmbed8(range) => parts.embedded_step(register_operand(mode, range, kind, register)),
-        Op::Reg(wanted) => parts.fixed_step(wanted, kind, register),
+        Op::Reg(wanted) => fixed_told(wanted, kind, register),
         Op::Hx(range) => parts.vvvv_step(register_operand(mode, range, kind, register)),
-        Op::Ib(expected) => parts.imm_step(byte_operand(parts.imm, expected, kind, instruction)),
+        Op::Ib(expected) => {
+            let imm = byte_operand(parts.imm, expected, kind, instruction);
+            parts.imm_step(imm)
+        }
         Op::Id(expected) => parts.imm_step(expecting(expected, kind, Imm::Size4(instruction.immediate))),
         Op::Iq => parts.imm_step(wide_operand(kind, instruction)),
         Op::J(expected, size) => parts.branch_step(branch_operand(mode, expected, size, kind, instruction)),

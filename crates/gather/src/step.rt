@@ -1,6 +1,5 @@
 ghost use mathlib.Core.Path.{_≡_};
-ghost use Rattle.gather.specs.Steps.{done, faulty, with-rm, with-flags, with-imm, asking, addressing, sizing, put-rm-register, put-reg, put-embedded, put-vvvv, put-offset, put-branch};
-use fault::OperandFault;
+ghost use Rattle.gather.specs.Steps.{with-rm, with-flags, with-imm, asking, addressing, sizing, put-rm-register, put-reg, put-embedded, put-vvvv, put-offset, put-branch};
 use super::absolute::Offset;
 use super::immediate::Branch;
 use super::parts::HeadFlags;
@@ -9,139 +8,84 @@ use super::parts::Parts;
 use super::parts::RmPart;
 use super::register::RegPart;
 
-// The parts after an operand, and its refusal where there is one.
-#[derive(Clone, Copy)]
-pub struct Step {
-    pub parts: Parts,
-    pub fault: Option<OperandFault>,
-}
-
-impl Step {
-    pub(crate) fn done(parts: Parts) -> Step
-        ensures { λ r. ⌜ r ≡ done parts ⌝ }
-    {
-        Step { parts, fault: None }
-    }
-
-    pub(crate) fn faulty(parts: Parts, fault: OperandFault) -> Step
-        ensures { λ r. ⌜ r ≡ faulty parts fault ⌝ }
-    {
-        Step {
-            parts,
-            fault: Some(fault),
-        }
-    }
-}
-
 impl HeadFlags {
     // what a register asks of REX
-    fn asking(self, register: RegPart) -> HeadFlags
-        ensures { λ r. ⌜ r ≡ asking self register ⌝ }
+    fn ask(&mut self, register: RegPart)
+        ensures { λ _. ⌜ now (self .exit) ≡ asking (now (self .entry)) register ⌝ }
     {
-        let rex = self.rex || register.rex;
-        let high = self.high || register.high;
-        HeadFlags { rex, high, ..self }
+        self.rex = self.rex || register.rex;
+        self.high = self.high || register.high;
     }
 
     // what a memory operand asks of the prefixes
-    pub(crate) fn addressing(self, p67: bool, broadcast: bool) -> HeadFlags
-        ensures { λ r. ⌜ r ≡ addressing self p67 broadcast ⌝ }
+    fn address(&mut self, p67: bool, broadcast: bool)
+        ensures { λ _. ⌜ now (self .exit) ≡ addressing (now (self .entry)) p67 broadcast ⌝ }
     {
-        let p67 = self.p67 || p67;
-        let broadcast = self.broadcast || broadcast;
-        HeadFlags {
-            p67,
-            broadcast,
-            ..self
-        }
+        self.p67 = self.p67 || p67;
+        self.broadcast = self.broadcast || broadcast;
     }
 
-    fn sizing(self, p66: bool) -> HeadFlags
-        ensures { λ r. ⌜ r ≡ sizing self p66 ⌝ }
+    fn size(&mut self, p66: bool)
+        ensures { λ _. ⌜ now (self .exit) ≡ sizing (now (self .entry)) p66 ⌝ }
     {
-        let p66 = self.p66 || p66;
-        HeadFlags { p66, ..self }
+        self.p66 = self.p66 || p66;
     }
 }
 
 impl Parts {
-    pub(crate) fn with_rm(self, rm: RmPart) -> Parts
-        ensures { λ r. ⌜ r ≡ with-rm self rm ⌝ }
+    pub(crate) fn put_memory(&mut self, rm: RmPart, p67: bool, broadcast: bool)
+        ensures { λ _. ⌜ now (self .exit) ≡ with-flags (with-rm (now (self .entry)) rm) (addressing (now (self .entry) .flags) p67 broadcast) ⌝ }
     {
-        Parts { rm, ..self }
+        self.rm = rm;
+        self.flags.address(p67, broadcast);
     }
 
-    pub(crate) fn with_flags(self, flags: HeadFlags) -> Parts
-        ensures { λ r. ⌜ r ≡ with-flags self flags ⌝ }
+    pub(crate) fn put_imm(&mut self, imm: Imm)
+        ensures { λ _. ⌜ now (self .exit) ≡ with-imm (now (self .entry)) imm ⌝ }
     {
-        Parts { flags, ..self }
+        self.imm = imm;
     }
 
-    pub(crate) fn with_imm(self, imm: Imm) -> Parts
-        ensures { λ r. ⌜ r ≡ with-imm self imm ⌝ }
+    pub(crate) fn put_rm_register(&mut self, register: RegPart)
+        ensures { λ _. ⌜ now (self .exit) ≡ put-rm-register (now (self .entry)) register ⌝ }
     {
-        Parts { imm, ..self }
+        self.rm = register.rm();
+        self.flags.ask(register);
     }
 
-    pub(crate) fn put_rm_register(self, register: RegPart) -> Parts
-        ensures { λ r. ⌜ r ≡ put-rm-register self register ⌝ }
+    pub(crate) fn put_reg(&mut self, register: RegPart)
+        ensures { λ _. ⌜ now (self .exit) ≡ put-reg (now (self .entry)) register ⌝ }
     {
-        let flags = self.flags.asking(register);
-        self.with_rm(register.rm()).with_flags(flags)
-    }
-
-    pub(crate) fn put_reg(self, register: RegPart) -> Parts
-        ensures { λ r. ⌜ r ≡ put-reg self register ⌝ }
-    {
-        let flags = self.flags.asking(register);
-        Parts {
-            reg: register.number,
-            flags,
-            ..self
-        }
+        self.reg = register.number;
+        self.flags.ask(register);
     }
 
     // the low three bits into the opcode, the fourth is B
-    pub(crate) fn put_embedded(self, register: RegPart) -> Parts
-        ensures { λ r. ⌜ r ≡ put-embedded self register ⌝ }
+    pub(crate) fn put_embedded(&mut self, register: RegPart)
+        ensures { λ _. ⌜ now (self .exit) ≡ put-embedded (now (self .entry)) register ⌝ }
     {
-        let flags = self.flags.asking(register);
-        let rm = RmPart {
-            b: register.number / 8,
-            ..self.rm
-        };
-        Parts {
-            rm,
-            low: register.number % 8,
-            flags,
-            ..self
-        }
+        self.rm.b = register.number / 8;
+        self.low = register.number % 8;
+        self.flags.ask(register);
     }
 
-    pub(crate) fn put_vvvv(self, register: RegPart) -> Parts
-        ensures { λ r. ⌜ r ≡ put-vvvv self register ⌝ }
+    pub(crate) fn put_vvvv(&mut self, register: RegPart)
+        ensures { λ _. ⌜ now (self .exit) ≡ put-vvvv (now (self .entry)) register ⌝ }
     {
-        Parts {
-            vvvv: register.number,
-            ..self
-        }
+        self.vvvv = register.number;
     }
 
-    pub(crate) fn put_offset(self, offset: Offset) -> Parts
-        ensures { λ r. ⌜ r ≡ put-offset self offset ⌝ }
+    pub(crate) fn put_offset(&mut self, offset: Offset)
+        ensures { λ _. ⌜ now (self .exit) ≡ put-offset (now (self .entry)) offset ⌝ }
     {
-        let flags = self.flags.addressing(offset.p67, false);
-        let rm = RmPart {
-            displ: offset.displ,
-            ..self.rm
-        };
-        self.with_rm(rm).with_flags(flags)
+        self.rm.displ = offset.displ;
+        self.flags.address(offset.p67, false);
     }
 
-    pub(crate) fn put_branch(self, branch: Branch) -> Parts
-        ensures { λ r. ⌜ r ≡ put-branch self branch ⌝ }
+    pub(crate) fn put_branch(&mut self, branch: Branch)
+        ensures { λ _. ⌜ now (self .exit) ≡ put-branch (now (self .entry)) branch ⌝ }
     {
-        let flags = self.flags.sizing(branch.p66);
-        self.with_imm(branch.imm).with_flags(flags)
+        self.imm = branch.imm;
+        self.flags.size(branch.p66);
     }
 }

@@ -70,6 +70,10 @@ impl Operands {
     pub fn has(&self, class: Class) -> bool
         ensures { λ r. ⌜ r ≡ has-class class (now (self .entry)) ⌝ }
     {
-        self.count(class) > 0
+        belongs_at(self.op0, class)
+            || belongs_at(self.op1, class)
+            || belongs_at(self.op2, class)
+            || belongs_at(self.op3, class)
+            || belongs_at(self.op4, class)
     }
 }

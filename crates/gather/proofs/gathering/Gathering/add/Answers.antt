@@ -6,6 +6,6 @@ pub returns-in-Some : need.returns-in-Some
 unfolding place-step
 returns-in-Some g c = search needs
 
-pub returns-in-None : need.returns-in-None
+pub returns-in-rest : need.returns-in-rest
 unfolding place-step
-returns-in-None g c = search needs
+returns-in-rest g c = search needs
