@@ -1,0 +1,4 @@
+pub mod Digits
+pub mod Drafts
+pub mod Making
+pub mod Tokens
