@@ -20,6 +20,14 @@ register-told n false e = None
 unfoldable pub register-of : ℕ → Option Register
 register-of n = register-told n (leb n 180) refl
 
+-- every register is the register of its number
+abbrev pub Register-there : Type 0
+Register-there = (x : Register) → register-of (x .number) ≡ Some x
+
+-- and the register of a number has that number
+abbrev pub Register-back : Type 0
+Register-back = (n : ℕ) (x : Register) → register-of n ≡ Some x → x .number ≡ n
+
 -- the register of a name that is filled up with zeros to five places
 abbrev pub register-named : List ℕ → Option Register
 register-named w = elim (name-register w) [ Some n ↦ register-of n | None ↦ None ]

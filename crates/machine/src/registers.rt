@@ -5,7 +5,7 @@ ghost use lib.ListN.{getD};
 ghost use Rattle.std.specs.Options.{Cases as BySome};
 ghost use Rattle.machine.specs.Banks.{bank-of, place-in, bank-index, Bank-there};
 ghost use Rattle.machine.specs.Names.{names, Name-there, Name-back};
-ghost use Rattle.machine.specs.Registers.{register-of, register-named};
+ghost use Rattle.machine.specs.Registers.{register-of, register-named, Register-there, Register-back};
 use super::bank::Bank;
 use super::names::name_of;
 use super::names::number_of;
@@ -35,7 +35,9 @@ fn known(number: u8) -> Option<Register>
 impl Register {
     // the register of a number, none above 180
     pub fn new(number: u8) -> Option<Register>
-        ensures { λ r. ⌜ r ≡ register-of number ⌝ }
+        ensures value { λ r. ⌜ r ≡ register-of number ⌝ }
+        ensures there { λ _. ⌜ Register-there ⌝ }
+        ensures back { λ _. ⌜ Register-back ⌝ }
     {
         known(number)
     }

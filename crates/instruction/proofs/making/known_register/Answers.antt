@@ -5,4 +5,4 @@ use Rattle.instruction.proofs.making.known_register.Needs as need
 
 pub returns : need.returns
 unfolding register-made
-returns c = c .known .ensures ∙ ap or-field (c .new .ensures)
+returns c = c .known .ensures ∙ ap or-field (c .new .ensures .value)

@@ -14,6 +14,6 @@ returns c =
     let k = c .args .number in
     let inside : ltb k 16 ≡ true = lt-ltb k 16 (c .if-number-ge16 .left) in
     record {
-      value = c .new .ensures ∙ ap register-of (c .register-number .ensures) ∙ sym (cond-true (ltb k 16) (register-of (byte-register k (c .args .rex))) None inside);
+      value = c .new .ensures .value ∙ ap register-of (c .register-number .ensures) ∙ sym (cond-true (ltb k 16) (register-of (byte-register k (c .args .rex))) None inside);
       back = byte-back
     }

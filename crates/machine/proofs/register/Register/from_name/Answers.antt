@@ -8,7 +8,7 @@ use Rattle.machine.proofs.Named.{name-there, name-back}
 use Rattle.machine.proofs.register.Register.from_name.Needs as need
 
 pub returns-in-Some : need.returns-in-Some
-returns-in-Some c = record { value = c .new .ensures ∙ ap (λ (o : Option ℕ). elim o [ Some n ↦ register-of n | None ↦ None ]) (c .in-Some .ensures tt); there = name-there; back = name-back }
+returns-in-Some c = record { value = c .new .ensures .value ∙ ap (λ (o : Option ℕ). elim o [ Some n ↦ register-of n | None ↦ None ]) (c .in-Some .ensures tt); there = name-there; back = name-back }
 
 pub returns-in-None : need.returns-in-None
 returns-in-None c = record { value = ap (λ (o : Option ℕ). elim o [ Some n ↦ register-of n | None ↦ None ]) (c .in-None .ensures tt); there = name-there; back = name-back }
