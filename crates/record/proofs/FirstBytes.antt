@@ -16,11 +16,7 @@ use Rattle.record.specs.Classes.{has-class}
 use Rattle.record.specs.Flags.{has-flag}
 use Rattle.record.specs.Rules.{begins, begins-embedded, only-old, first-holds, head-first-holds, is-prefix, is-rex}
 use Rattle.record.specs.Facts.{first-byte-of, First-byte-begins}
-use Rattle.record.proofs.Soundness.{rules-kept}
-
-both : (a b : Bool) → (a && b) ≡ true → (a ≡ true) × (b ≡ true)
-both true b e = (refl, e)
-both false b e = grind arith
+use Rattle.record.proofs.Soundness.{both, rules-kept}
 
 at-place : (f : ℕ → Bool) (b low : ℕ) → f b ≡ true → f (b + 1) ≡ true → f (b + 2) ≡ true → f (b + 3) ≡ true → f (b + 4) ≡ true → f (b + 5) ≡ true → f (b + 6) ≡ true → f (b + 7) ≡ true → low < 8 → f (b + low) ≡ true
 at-place f b zero p q r s t u v w h = ap f (omega arith) ∙ p

@@ -16,11 +16,7 @@ use Rattle.record.specs.declared.sound.Record.{Record}
 use Rattle.record.specs.Immediates.{imm-after, imm-byte, imm-first, imm-count, imm-shape}
 use Rattle.record.specs.Rules.{branch-holds, op-imm-holds, shape-known}
 use Rattle.record.specs.Facts.{imm-bytes, Imm-bytes-known}
-use Rattle.record.proofs.Soundness.{rules-kept}
-
-both : (a b : Bool) → (a && b) ≡ true → (a ≡ true) × (b ≡ true)
-both true b e = (refl, e)
-both false b e = grind arith
+use Rattle.record.proofs.Soundness.{both, rules-kept}
 
 branch-few : (n s : ℕ) (k : OpKind) → kind-number k ≡ n → branch-holds k s ≡ true → s ≤ 8
 branch-few n s k p e = grind (arith, tells)

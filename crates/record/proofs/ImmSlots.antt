@@ -14,7 +14,7 @@ use Rattle.record.specs.Classes.{bit}
 use Rattle.record.specs.Immediates.{imm-after, imm-byte, imm-first, imm-shape}
 use Rattle.record.specs.Rules.{shape-known}
 use Rattle.record.specs.Facts.{imm-slots, is-immediate, Immediates-owned-once}
-use Rattle.record.proofs.Soundness.{rules-kept}
+use Rattle.record.proofs.Soundness.{both, rules-kept}
 
 -- one step that stays known came from a known one and takes one slot for an immediate
 abbrev Grows : ImmShape → ImmShape → ℕ → Type 0
@@ -53,10 +53,6 @@ after-grows x (Some Iq) k = first-grows x Imm.Iq refl k
 after-grows x (Some (J e s)) k = first-grows x (Imm.J s) refl k
 after-grows x None k = (k, omega arith)
 
-known-first : (a b : Bool) → (a && b) ≡ true → a ≡ true
-known-first true b e = refl
-known-first false b e = e
-
 pub immediates-owned-once : Immediates-owned-once
 immediates-owned-once r =
     let x = r .raw .operands in
@@ -64,7 +60,7 @@ immediates-owned-once r =
     let s2 = imm-after s1 (x .op1) in
     let s3 = imm-after s2 (x .op2) in
     let s4 = imm-after s3 (x .op3) in
-    let e = after-grows s4 (x .op4) (known-first (shape-known (imm-shape x)) _ (rules-kept r .immediates)) in
+    let e = after-grows s4 (x .op4) (both (shape-known (imm-shape x)) _ (rules-kept r .immediates) .0) in
     let d = after-grows s3 (x .op3) (e .0) in
     let c = after-grows s2 (x .op2) (d .0) in
     let b = after-grows s1 (x .op1) (c .0) in

@@ -15,7 +15,7 @@ use Rattle.record.specs.declared.sound.Record.{Record}
 use Rattle.record.specs.Classes.{belongs-at, bit, class-count}
 use Rattle.record.specs.Rules.{slots-hold}
 use Rattle.record.specs.Facts.{op-places, owners, is-slot, Slots-owned-once}
-use Rattle.record.proofs.Soundness.{rules-kept}
+use Rattle.record.proofs.Soundness.{both, rules-kept}
 
 pub owners-append : (c : Class) (xs ys : List (Option Op)) → owners c (xs ++ ys) ≡ owners c xs + owners c ys
 owners-append c [] ys = omega arith
@@ -23,10 +23,6 @@ owners-append c (x ∷ xs) ys = omega (arith, owners-append c xs ys)
 
 pub owners-count : (c : Class) (x : Operands) → owners c (op-places x) ≡ class-count c x
 owners-count c x = omega arith
-
-both : (a b : Bool) → (a && b) ≡ true → (a ≡ true) × (b ≡ true)
-both true b e = (refl, e)
-both false b e = grind arith
 
 at-most : (n : ℕ) → leb n 1 ≡ true → n ≤ 1
 at-most n e = grind (arith, tells)

@@ -1,6 +1,6 @@
 -- A sound record keeps every rule.
 use mathlib.Core.Path.{_≡_, refl}
-use mathlib.Core.Bool.{Bool, true, false, cond, not}
+use mathlib.Core.Bool.{Bool, true, false, cond, not, _&&_}
 use native.Mathlib.Omega.{arith}
 use Rattle.std.specs.declared.option.Option.{Option}
 use Rattle.std.specs.declared.option.Option.the-variants.{Some, None}
@@ -10,6 +10,11 @@ use Rattle.record.specs.declared.raw.RawRecord.{RawRecord}
 use Rattle.record.specs.declared.sound.Record.{Record}
 use Rattle.record.specs.Rules.{broken, fields-hold, ranges-hold, slots-hold, mod-rm-holds, immediates-hold, heads-hold, modes-hold, first-byte-holds}
 use Rattle.record.specs.Facts.{Sound, Rules-kept}
+
+-- of two tests that hold together, each
+pub both : (a b : Bool) → (a && b) ≡ true → (a ≡ true) × (b ≡ true)
+both true b e = (refl, e)
+both false b e = grind arith
 
 -- where no test of a chain speaks, the first passed and the rest say nothing
 passed : (t : Bool) (rule : Rule) (rest : Option Rule) → isSome (cond (not t) (Some rule) rest) ≡ false → (t ≡ true) × (isSome rest ≡ false)
