@@ -107,7 +107,7 @@ fn times(rt: &HostRuntime, policy: &PortPolicy, items: &[Item]) -> io::Result<Ve
         sum = sum.wrapping_add(bytes);
         times.push(nanos)?;
     }
-    times.sort();
+    times.sort()?;
     println!(rt; "{sum} bytes in all")?;
     Ok(times)
 }
@@ -124,7 +124,7 @@ fn asked(rt: &HostRuntime) -> io::Result<bool> {
     let mut args = env::args(rt)?;
     let _ = args.next();
     match args.next() {
-        Some(word) => Ok(word.as_bytes() == b"figures"),
+        Some(word) => Ok(word.as_bytes() == b"figures".as_slice()),
         None => Ok(false),
     }
 }

@@ -108,8 +108,8 @@ fn steps<P: Policy>(
     record: &Record,
     instruction: &Instruction,
 ) -> Encoded
-    ensures bytes { used result.line ≡ (steps_of (spread policy.now) settings mode address «record».now instruction.now).bytes }
-    ensures answer { result.result ≡ (steps_of (spread policy.now) settings mode address «record».now instruction.now).answer }
+    ensures bytes { used result.line ≡ (steps_of (P.spread policy.now) settings mode address «record».now instruction.now).bytes }
+    ensures answer { result.result ≡ (steps_of (P.spread policy.now) settings mode address «record».now instruction.now).answer }
 {
     let gathering = gather(policy, mode, record, instruction);
     let written = write_head(gathering, settings, record, instruction);
@@ -166,8 +166,8 @@ pub fn encode<P: Policy>(
     record: &Record,
     instruction: &Instruction,
 ) -> Encoded
-    ensures bytes { used result.line ≡ (encode_of (spread policy.now) settings mode address «record».now instruction.now).bytes }
-    ensures answer { result.result ≡ (encode_of (spread policy.now) settings mode address «record».now instruction.now).answer }
+    ensures bytes { used result.line ≡ (encode_of (P.spread policy.now) settings mode address «record».now instruction.now).bytes }
+    ensures answer { result.result ≡ (encode_of (P.spread policy.now) settings mode address «record».now instruction.now).answer }
     ensures no_address { LengthWithoutAddress }
     ensures lengths { AnswerIsLength }
 {
@@ -183,8 +183,8 @@ fn checked<P: Policy>(
     record: &Record,
     instruction: &Instruction,
 ) -> Encoded
-    ensures bytes { used result.line ≡ (encode_of (spread policy.now) settings mode address «record».now instruction.now).bytes }
-    ensures answer { result.result ≡ (encode_of (spread policy.now) settings mode address «record».now instruction.now).answer }
+    ensures bytes { used result.line ≡ (encode_of (P.spread policy.now) settings mode address «record».now instruction.now).bytes }
+    ensures answer { result.result ≡ (encode_of (P.spread policy.now) settings mode address «record».now instruction.now).answer }
 {
     let Some(mode) = Mode::from_number(mode) else {
         return refused(EncodingFault::Mode);

@@ -1,6 +1,5 @@
 -- Every refusal has a number, an operand place (5 where there is none) and a layer. This is the one list of them.
 use Rattle.std.specs.Prelude.{ℕ}
-use Rattle.machine.specs.declared.place.Place.{Place}
 use Rattle.machine.specs.Places.{place_number}
 use Rattle.fault.specs.declared.code.FaultCode.{FaultCode}
 use Rattle.fault.specs.declared.fault.Fault.{Fault}

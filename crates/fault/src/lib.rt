@@ -1,4 +1,6 @@
 // Every refusal: one enum a layer, and one definition that gives each case its number, place and layer.
+#![tactic(auto)]
+
 mod append;
 mod code;
 mod encode;

@@ -131,7 +131,7 @@ impl Gathering {
         instruction: &Instruction,
         place: Place,
     )
-        ensures { self.new ≡ place_step (spread policy.now) mode «record».now instruction.now place self.old }
+        ensures { self.new ≡ place_step (P.spread policy.now) mode «record».now instruction.now place self.old }
     {
         if let Some(op) = record.op(place) {
             let told = op_step(
@@ -155,7 +155,7 @@ pub fn gather<P: Policy>(
     record: &Record,
     instruction: &Instruction,
 ) -> Gathering
-    ensures value { result ≡ gathered (spread policy.now) mode «record».now instruction.now }
+    ensures value { result ≡ gathered (P.spread policy.now) mode «record».now instruction.now }
     ensures one_byte { OneByteExactlyWhereOneStands }
 {
     in_order(policy, mode, record, instruction)
@@ -167,7 +167,7 @@ fn in_order<P: Policy>(
     record: &Record,
     instruction: &Instruction,
 ) -> Gathering
-    ensures { result ≡ in_order (spread policy.now) mode «record».now instruction.now }
+    ensures { result ≡ in_order (P.spread policy.now) mode «record».now instruction.now }
 {
     let mut gathering = Gathering::start(mode, record);
     gathering.add(policy, mode, record, instruction, Place::Op0);

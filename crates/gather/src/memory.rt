@@ -190,7 +190,7 @@ fn sized_out<P: Policy>(
     displ: u64,
     size: u8,
 ) -> Result<Out, Refusal>
-    ensures { result ≡ sized_out (spread policy.now «record».now broadcast) bytes displ size }
+    ensures { result ≡ sized_out (P.spread policy.now «record».now broadcast) bytes displ size }
 {
     if size == 1 {
         let low = (displ % 0x1_0000_0000) as u32;
@@ -221,7 +221,7 @@ fn displ_out<P: Policy>(
     displ: u64,
     size: u8,
 ) -> Result<Out, Refusal>
-    ensures { result ≡ displ_out (spread policy.now «record».now broadcast) bytes base displ size }
+    ensures { result ≡ displ_out (P.spread policy.now «record».now broadcast) bytes base displ size }
 {
     let Some(base) = base else {
         return Ok(Out::Full);
@@ -402,7 +402,7 @@ fn based_mem<P: Policy>(
     must_use_sib: bool,
     a: Address,
 ) -> Result<RmPart, Refusal>
-    ensures { result ≡ based_mem (spread policy.now «record».now broadcast) bytes must_use_sib a }
+    ensures { result ≡ based_mem (P.spread policy.now «record».now broadcast) bytes must_use_sib a }
 {
     let out = displ_out(policy, record, broadcast, bytes, a.base, a.displ, a.size)?;
     let part = address_part(must_use_sib, a.base, a.index, a.scale, a.displ, out);
@@ -427,7 +427,7 @@ fn ranged_mem<P: Policy>(
     vsib: Option<RegisterRange>,
     instruction: &Instruction,
 ) -> Result<RmPart, Refusal>
-    ensures { result ≡ ranged_mem (spread policy.now «record».now broadcast) mode bytes must_use_sib vsib instruction.now }
+    ensures { result ≡ ranged_mem (P.spread policy.now «record».now broadcast) mode bytes must_use_sib vsib instruction.now }
 {
     displ_checked(bytes, instruction.mem_displ)?;
     if is_bare(instruction) {
@@ -449,7 +449,7 @@ pub(crate) fn mem<P: Policy>(
     vsib: Option<RegisterRange>,
     instruction: &Instruction,
 ) -> Result<RmPart, Refusal>
-    ensures { result ≡ mem (spread policy.now «record».now broadcast) mode bytes must_use_sib vsib instruction.now }
+    ensures { result ≡ mem (P.spread policy.now «record».now broadcast) mode bytes must_use_sib vsib instruction.now }
 {
     mem_checked(mode, bytes, vsib, instruction)?;
     if is_rip(instruction.memory.base.number) {

@@ -43,7 +43,7 @@ fn offset16(displ: u64) -> Result<RmPart, Refusal>
 
 // a displacement asked in one byte: one where some byte stands for it, else two
 fn one16<P: Policy>(policy: &P, record: &Record, broadcast: bool, rm: u8, displ: u64) -> RmPart
-    ensures { result ≡ one16 (spread policy.now «record».now broadcast) rm displ }
+    ensures { result ≡ one16 (P.spread policy.now «record».now broadcast) rm displ }
 {
     let low = (displ % 65536) as u16;
     match policy.shorten(record, broadcast, low.cast_signed() as i32) {
@@ -60,7 +60,7 @@ fn sized16<P: Policy>(
     displ: u64,
     size: u8,
 ) -> Result<RmPart, Refusal>
-    ensures { result ≡ sized16 (spread policy.now «record».now broadcast) rm displ size }
+    ensures { result ≡ sized16 (P.spread policy.now «record».now broadcast) rm displ size }
 {
     let bare = RmPart::plain(0, rm, Displ::Absent);
     match size {
@@ -84,7 +84,7 @@ fn based16<P: Policy>(
     displ: u64,
     size: u8,
 ) -> Result<RmPart, Refusal>
-    ensures { result ≡ based16 (spread policy.now «record».now broadcast) rm bp displ size }
+    ensures { result ≡ based16 (P.spread policy.now «record».now broadcast) rm bp displ size }
 {
     let bare = RmPart::plain(0, rm, Displ::Absent);
     if displ > 65535 && displ < 0xFFFF_FFFF_FFFF_8000 {
@@ -107,7 +107,7 @@ pub(crate) fn mem16<P: Policy>(
     mode: Mode,
     instruction: &Instruction,
 ) -> Result<RmPart, Refusal>
-    ensures { result ≡ mem16 (spread policy.now «record».now broadcast) mode instruction.now }
+    ensures { result ≡ mem16 (P.spread policy.now «record».now broadcast) mode instruction.now }
 {
     if is64(mode) {
         return Err(Refusal::blank(OperandFault::Address16In64));

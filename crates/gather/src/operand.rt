@@ -34,7 +34,7 @@ fn mem_sized<P: Policy>(
     vsib: Option<RegisterRange>,
     instruction: &Instruction,
 ) -> Result<RmPart, Refusal>
-    ensures { result ≡ mem_sized (spread policy.now «record».now broadcast) mode bytes must_use_sib vsib instruction.now }
+    ensures { result ≡ mem_sized (P.spread policy.now «record».now broadcast) mode bytes must_use_sib vsib instruction.now }
 {
     if bytes == 2 {
         if vsib.is_some() {
@@ -168,8 +168,8 @@ fn rm_memory<P: Policy>(
     vsib: Option<RegisterRange>,
     parts: &mut Parts,
 ) -> Result<(), OperandFault>
-    ensures parts { parts.new ≡ (rm_memory (spread policy.now) mode «record».now instruction.now must_use_sib vsib parts.old).parts }
-    ensures told { result ≡ told (rm_memory (spread policy.now) mode «record».now instruction.now must_use_sib vsib parts.old) }
+    ensures parts { parts.new ≡ (rm_memory (P.spread policy.now) mode «record».now instruction.now must_use_sib vsib parts.old).parts }
+    ensures told { result ≡ told (rm_memory (P.spread policy.now) mode «record».now instruction.now must_use_sib vsib parts.old) }
 {
     let broadcast = broadcasts(record, instruction);
     let bytes = address_bytes(mode, instruction);
@@ -198,8 +198,8 @@ fn mem_only_step<P: Policy>(
     vsib: Option<RegisterRange>,
     parts: &mut Parts,
 ) -> Result<(), OperandFault>
-    ensures parts { parts.new ≡ (mem_only kind parts.old (rm_memory (spread policy.now) mode «record».now instruction.now must_use_sib vsib parts.old)).parts }
-    ensures told { result ≡ told (mem_only kind parts.old (rm_memory (spread policy.now) mode «record».now instruction.now must_use_sib vsib parts.old)) }
+    ensures parts { parts.new ≡ (mem_only kind parts.old (rm_memory (P.spread policy.now) mode «record».now instruction.now must_use_sib vsib parts.old)).parts }
+    ensures told { result ≡ told (mem_only kind parts.old (rm_memory (P.spread policy.now) mode «record».now instruction.now must_use_sib vsib parts.old)) }
 {
     if is_register(kind) {
         return Err(OperandFault::RegisterNotAllowed);
@@ -221,8 +221,8 @@ fn rm_step<P: Policy>(
     range: RegisterRange,
     parts: &mut Parts,
 ) -> Result<(), OperandFault>
-    ensures parts { parts.new ≡ (rm_step kind parts.old (register_step parts.old (put_rm_register parts.old) (ranged_register mode range register.number)) (rm_memory (spread policy.now) mode «record».now instruction.now false None parts.old)).parts }
-    ensures told { result ≡ told (rm_step kind parts.old (register_step parts.old (put_rm_register parts.old) (ranged_register mode range register.number)) (rm_memory (spread policy.now) mode «record».now instruction.now false None parts.old)) }
+    ensures parts { parts.new ≡ (rm_step kind parts.old (register_step parts.old (put_rm_register parts.old) (ranged_register mode range register.number)) (rm_memory (P.spread policy.now) mode «record».now instruction.now false None parts.old)).parts }
+    ensures told { result ≡ told (rm_step kind parts.old (register_step parts.old (put_rm_register parts.old) (ranged_register mode range register.number)) (rm_memory (P.spread policy.now) mode «record».now instruction.now false None parts.old)) }
 {
     if is_register(kind) {
         return parts.rm_register_step(ranged_register(mode, range, register));
@@ -243,8 +243,8 @@ pub(crate) fn op_step<P: Policy>(
     op: Op,
     parts: &mut Parts,
 ) -> Result<(), OperandFault>
-    ensures parts { parts.new ≡ (op_step (spread policy.now) mode «record».now instruction.now place op parts.old).parts }
-    ensures told { result ≡ told (op_step (spread policy.now) mode «record».now instruction.now place op parts.old) }
+    ensures parts { parts.new ≡ (op_step (P.spread policy.now) mode «record».now instruction.now place op parts.old).parts }
+    ensures told { result ≡ told (op_step (P.spread policy.now) mode «record».now instruction.now place op parts.old) }
 {
     let kind = instruction.op_kind(place);
     let register = instruction.op_register(place);

@@ -1,5 +1,5 @@
 -- The numbers of an instruction make it again.
-use Rattle.std.proofs.Common.{◌≡◌, ℕ, Bool, true, false, cond, Some, None, Ok, Err, Option, Result, sym, refl, ap, ◌∙◌, arith}
+use Rattle.std.proofs.Common.{◌≡◌, Some, None, Ok, Option, sym, refl, ap, arith}
 use Rattle.machine.specs.declared.code_size.CodeSize.{CodeSize}
 use Rattle.machine.specs.declared.op_kind.OpKind.{OpKind}
 use Rattle.machine.specs.declared.opmask.Opmask.{Opmask}
@@ -8,15 +8,14 @@ use Rattle.machine.specs.declared.rounding.RoundingControl.{RoundingControl}
 use Rattle.machine.specs.declared.scale.Scale.{Scale}
 use Rattle.machine.specs.declared.segment.Segment.{Segment}
 use Rattle.machine.specs.declared.segment.Segment.TheVariants.{Es, Cs, Ss, Ds, Fs, Gs}
-use Rattle.machine.specs.CodeSizes.{size_number, size_named}
-use Rattle.machine.specs.OpKinds.{kind_number, kind_named}
-use Rattle.machine.specs.Opmasks.{opmask_number, opmask_named}
-use Rattle.machine.specs.Roundings.{rounding_number, rounding_named}
-use Rattle.machine.specs.Scales.{scale_number, scale_named}
+use Rattle.machine.specs.CodeSizes.{size_number}
+use Rattle.machine.specs.OpKinds.{kind_number}
+use Rattle.machine.specs.Opmasks.{opmask_number}
+use Rattle.machine.specs.Roundings.{rounding_number}
+use Rattle.machine.specs.Scales.{scale_number}
 use Rattle.machine.proofs.Registered.{register_there}
-use Rattle.instruction.specs.declared.made.Instruction.{Instruction}
-use Rattle.instruction.specs.Fields.{segment_or_none, raw_of}
-use Rattle.instruction.specs.Making.{or_field, then, size_made, kind_made, scale_made, opmask_made, rounding_made, register_made, segment_made, MadeBack}
+use Rattle.instruction.specs.Fields.{segment_or_none}
+use Rattle.instruction.specs.Making.{or_field, size_made, kind_made, scale_made, opmask_made, rounding_made, register_made, segment_made, MadeBack}
 
 size_again : (x : CodeSize) → size_made (size_number x) ≡ Ok x
 unfolding size_made

@@ -1,6 +1,5 @@
 -- Numbers make an instruction exactly when each is in its range.
-use Rattle.std.proofs.Common.{◌≡◌, ℕ, Bool, true, false, cond, ◌&&◌, ◌||◌, eqb, leb, is_ok, Some, None, Ok, Err, Result, sym, refl, ap, ◌∙◌, arith}
-use Rattle.std.proofs.lemmas.Bool.Decides.{nat_tests}
+use Rattle.std.proofs.Common.{◌≡◌, ℕ, Bool, true, false, cond, ◌&&◌, ◌||◌, eqb, leb, is_ok, Some, None, Ok, refl, ◌∙◌}
 use Rattle.machine.specs.CodeSizes.{size_named}
 use Rattle.machine.specs.OpKinds.{kind_named}
 use Rattle.machine.specs.Opmasks.{opmask_named}

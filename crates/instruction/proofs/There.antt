@@ -1,5 +1,5 @@
 -- An instruction keeps the numbers that it was made of, and they make it again.
-use Rattle.std.proofs.Common.{◌≡◌, ℕ, Bool, true, false, cond, eqb, Some, None, Ok, Err, Option, Result, sym, refl, ap, ◌∙◌, arith}
+use Rattle.std.proofs.Common.{◌≡◌, ℕ, Bool, true, false, cond, eqb, Some, None, Ok, Option, Result, sym, refl, ap, ◌∙◌, arith}
 use Rattle.std.proofs.lemmas.Bool.Decides.{nat_tests}
 use Rattle.fault.specs.declared.making.MakingFault.{MakingFault}
 use Rattle.machine.specs.declared.code_size.CodeSize.{CodeSize}
@@ -16,16 +16,15 @@ use Rattle.machine.specs.Registers.{register_of}
 use Rattle.machine.specs.Roundings.{rounding_number, roundings}
 use Rattle.machine.specs.Scales.{scale_number, scales}
 use Rattle.machine.specs.Segments.{segment_number, segments, segment_named}
-use Rattle.machine.proofs.Registered.{register_back, register_there}
+use Rattle.machine.proofs.Registered.{register_back}
 use Rattle.instruction.specs.declared.made.EvexFields.{EvexFields}
-use Rattle.instruction.specs.declared.made.Instruction.{Instruction}
 use Rattle.instruction.specs.declared.made.MemoryFields.{MemoryFields}
 use Rattle.instruction.specs.declared.made.OperandKinds.{OperandKinds}
 use Rattle.instruction.specs.declared.made.OperandRegisters.{OperandRegisters}
 use Rattle.instruction.specs.declared.made.PrefixFields.{PrefixFields}
 use Rattle.instruction.specs.declared.raw.RawInstruction.{RawInstruction}
 use Rattle.instruction.specs.Fields.{segment_or_none, raw_of}
-use Rattle.instruction.specs.Making.{or_field, then, size_made, kind_made, scale_made, opmask_made, rounding_made, register_made, segment_made, prefixes_made, memory_made, kinds_made, registers_made, evex_made, instruction_of, MadeThere, MadeBack}
+use Rattle.instruction.specs.Making.{or_field, then, size_made, kind_made, scale_made, opmask_made, rounding_made, register_made, segment_made, prefixes_made, memory_made, kinds_made, registers_made, evex_made, MadeThere}
 use Rattle.instruction.proofs.Leaves.{field_some, field_there, then_ok}
 
 same_ok : {X : Type 0} (x y : X) → ◌≡◌ {A = Result X MakingFault} (Ok x) (Ok y) → x ≡ y

@@ -1,4 +1,4 @@
-use Rattle.std.specs.Prelude.{◌≡◌, ℕ, Bool, true, false, ◌&&◌, ◌||◌, Some, None, Option, ◌==◌, nat_le}
+use Rattle.std.specs.Prelude.{ℕ, Bool, ◌&&◌, ◌||◌, Some, None, Option, ◌==◌, nat_le}
 use Rattle.machine.specs.CodeSizes.{size_number}
 use Rattle.machine.specs.OpKinds.{kind_number}
 use Rattle.machine.specs.Opmasks.{opmask_number}

@@ -1,5 +1,5 @@
 -- What the encoder asks of an instruction.
-use Rattle.std.specs.Prelude.{ℕ, ◌+◌, ◌*◌, ◌%◌, ◌^◌, Bool, cond, ◌==◌, nat_le}
+use Rattle.std.specs.Prelude.{ℕ, ◌+◌, ◌*◌, ◌%◌, ◌^◌, cond, ◌==◌, nat_le}
 use Rattle.machine.specs.declared.op_kind.OpKind.{OpKind}
 use Rattle.machine.specs.declared.op_kind.OpKind.TheVariants.{Immediate8}
 use Rattle.machine.specs.declared.place.Place.{Place}

@@ -1,4 +1,4 @@
-use Rattle.std.specs.Prelude.{◌≡◌, ℕ, Bool, cond, is_ok, Some, None, Ok, Err, Option, Result, ◌==◌}
+use Rattle.std.specs.Prelude.{◌≡◌, ℕ, cond, is_ok, Some, None, Ok, Err, Option, Result, ◌==◌}
 use Rattle.fault.specs.declared.making.MakingFault.{MakingFault}
 use Rattle.fault.specs.declared.making.MakingFault.TheVariants.{Field}
 use Rattle.machine.specs.CodeSizes.{size_named}

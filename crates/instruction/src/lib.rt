@@ -1,4 +1,6 @@
 // Instructions: fields as numbers, the ones in range, and what the encoder asks of them.
+#![tactic(auto)]
+
 mod getters;
 mod made;
 mod making;

@@ -1,5 +1,5 @@
 -- A register's bank and place in it, and the way back.
-use Rattle.std.proofs.Common.{◌≡◌, ℕ, ◌+◌, ◌-◌, ◌<◌, ◌≤◌, cond, eqb, ltb, Some, None, Option, refl, ap, ◌∙◌, arith}
+use Rattle.std.proofs.Common.{◌≡◌, ℕ, ◌+◌, ◌-◌, ◌<◌, ◌≤◌, Some, None, Option, ap, ◌∙◌, arith}
 use Rattle.std.proofs.lemmas.Bool.Decides.{nat_tests}
 use Rattle.machine.specs.declared.bank.Bank.{Bank}
 use Rattle.machine.specs.declared.bank.Bank.TheVariants.{Gpr8, Gpr16, Gpr32, Gpr64, Ip, Seg, Xmm, Ymm, Zmm, Mask}

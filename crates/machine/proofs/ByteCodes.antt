@@ -1,7 +1,7 @@
 -- 8-bit registers are written by numbers and read back.
-use Rattle.std.proofs.Common.{◌≡◌, ℕ, ◌+◌, ◌-◌, ◌<◌, ◌≤◌, Bool, true, false, cond, ◌&&◌, ltb, leb, arith}
+use Rattle.std.proofs.Common.{true, false, arith}
 use Rattle.std.proofs.lemmas.Bool.Decides.{nat_tests}
-use Rattle.machine.specs.Bytes.{byte_number, byte_rex, byte_high, byte_register, ByteThere, ByteBack}
+use Rattle.machine.specs.Bytes.{ByteThere, ByteBack}
 
 pub byte_there : ByteThere
 byte_there n true l h r g = (grind (arith, nat_tests), grind (arith, nat_tests))

@@ -1,9 +1,9 @@
 -- A register is found by its name.
-use Rattle.std.proofs.Common.{◌≡◌, ℕ, zero, suc, ◌+◌, ◌-◌, ◌<◌, ◌≤◌, Bool, true, false, cond, eqb, List, [], ◌∷◌, length, get_or, drop, Some, None, Option, sym, refl, ap, ◌∙◌, add-one, arith}
+use Rattle.std.proofs.Common.{◌≡◌, ℕ, zero, suc, ◌+◌, ◌-◌, ◌<◌, ◌≤◌, Bool, true, false, cond, eqb, List, [], ◌∷◌, length, get_or, drop, Some, None, Option, sym, refl, ap, ◌∙◌, arith}
 use Rattle.std.proofs.lemmas.List.{drop_more, drop_all}
 use Rattle.std.proofs.lemmas.Bool.Decides.{nat_tests}
 use Rattle.std.proofs.lemmas.Bool.{cond-true, cond-false}
-use Rattle.machine.specs.Names.{names, same_name, name_from, name_register, NameThere, NameBack}
+use Rattle.machine.specs.Names.{names, same_name, name_from, NameThere, NameBack}
 
 pub name_hit : (vs : List (List ℕ)) (w : List ℕ) (i : ℕ) → i < length vs → same_name (get_or vs i []) w ≡ true → name_from (drop i vs) w i ≡ Some i
 name_hit vs w i h t = ap (λ l. name_from l w i) (drop_more vs i [] h) ∙ cond-true (same_name (get_or vs i []) w) (Some i) (name_from (drop (i + 1) vs) w (i + 1)) t

@@ -1,5 +1,5 @@
 -- A register is known by its number alone.
-use Rattle.std.proofs.Common.{◌≡◌, ℕ, ◌<◌, ◌≤◌, Bool, true, false, leb, is_some, Some, None, Option, sym, refl, ap, ◌∙◌, arith, le-leb, leb-true, MatchOption}
+use Rattle.std.proofs.Common.{◌≡◌, ℕ, ◌<◌, ◌≤◌, Bool, true, false, leb, is_some, Some, None, Option, sym, refl, ap, ◌∙◌, arith, le-leb, MatchOption}
 use mathlib.Core.HLevel.{is_prop→PathP}
 use native.Mathlib.Bridge.{le_prop}
 use borrow.Author.Tests.{lt-leb}

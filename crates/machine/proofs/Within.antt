@@ -1,5 +1,5 @@
 -- Which numbers name a value.
-use Rattle.std.proofs.Common.{◌≡◌, ℕ, Bool, true, ◌&&◌, ltb, leb, is_some, refl, ◌∙◌, arith}
+use Rattle.std.proofs.Common.{◌≡◌, ℕ, ◌&&◌, leb, is_some, refl, ◌∙◌, arith}
 use Rattle.std.proofs.lemmas.Bool.Decides.{nat_tests}
 use Rattle.machine.specs.CodeSizes.{size_number, sizes, size_named}
 use Rattle.machine.specs.OpKinds.{kind_number, kinds, kind_named}

@@ -1,4 +1,6 @@
 // The machine's words: registers and their banks, operand kinds, code sizes, modes, rounding, segments.
+#![tactic(auto)]
+
 mod bank;
 mod byte_code;
 mod code;

@@ -1,10 +1,9 @@
 -- What a range that its rule allows says of its ends.
-use Rattle.std.proofs.Common.{◌≡◌, ℕ, ◌+◌, ◌≤◌, Bool, true, false, not, ◌&&◌, ◌||◌, eqb, sym, refl, ◌∙◌, arith}
+use Rattle.std.proofs.Common.{◌≡◌, ℕ, ◌+◌, ◌≤◌, Bool, true, false, not, ◌&&◌, ◌||◌, refl, arith}
 use Rattle.std.proofs.lemmas.Bool.Decides.{nat_tests}
 use Rattle.record.specs.declared.head.Head.{Head}
-use Rattle.record.specs.declared.head.Head.TheVariants.{Legacy, Vex, Evex}
 use Rattle.record.specs.declared.op.RegisterRange.{RegisterRange}
-use Rattle.record.specs.Rules.{is_legacy, is_evex, range_holds, range_bytes, range_plain, range_vector16, range_vector32}
+use Rattle.record.specs.Rules.{is_legacy, is_evex, range_bytes, range_plain, range_vector16, range_vector32}
 use Rattle.record.specs.Facts.{BankFacts, BanksKnown}
 
 bytes_run : (r : RegisterRange) → range_bytes r ≡ true → (r.lo ≡ 1) × (r.hi ≡ 20)

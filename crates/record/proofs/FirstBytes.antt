@@ -1,13 +1,9 @@
 -- The first byte after the prefixes of a legacy record is no prefix, and no REX in mode 64.
-use Rattle.std.proofs.Common.{◌≡◌, ℕ, zero, suc, ◌+◌, ◌/◌, ◌%◌, ◌<◌, Bool, true, false, cond, not, ◌&&◌, ◌||◌, eqb, sym, refl, ap, ◌∙◌, subst, arith}
-use Rattle.std.proofs.lemmas.Bool.Decides.{nat_tests}
+use Rattle.std.proofs.Common.{◌≡◌, ℕ, zero, suc, ◌+◌, ◌/◌, ◌<◌, Bool, true, false, cond, not, ◌&&◌, ◌||◌, eqb, sym, refl, ap, ◌∙◌, arith}
 use Rattle.record.specs.declared.class.Class.TheVariants.{Embedded}
 use Rattle.record.specs.declared.flags.Flag.TheVariants as Flags
-use Rattle.record.specs.declared.head.Head.{Head}
-use Rattle.record.specs.declared.head.Head.TheVariants.{Legacy}
 use Rattle.record.specs.declared.head.LegacyHead.{LegacyHead}
 use Rattle.record.specs.declared.raw.RawRecord.{RawRecord}
-use Rattle.record.specs.declared.sound.Record.{Record}
 use Rattle.record.specs.Classes.{has_class}
 use Rattle.record.specs.Flags.{has_flag}
 use Rattle.record.specs.Rules.{begins, begins_embedded, only_old, first_holds, head_first_holds, is_prefix, is_rex}

@@ -1,5 +1,5 @@
 -- The immediates of a sound record take at most eight bytes.
-use Rattle.std.proofs.Common.{◌≡◌, ℕ, ◌≤◌, Bool, true, false, ◌&&◌, Some, None, Option, sym, refl, ap, ◌∙◌, arith}
+use Rattle.std.proofs.Common.{◌≡◌, ℕ, ◌≤◌, Bool, true, false, Some, None, Option, sym, refl, ap, ◌∙◌, arith}
 use Rattle.std.proofs.lemmas.Bool.Decides.{nat_tests}
 use Rattle.machine.specs.declared.op_kind.OpKind.{OpKind}
 use Rattle.machine.specs.OpKinds.{kind_number}
@@ -7,10 +7,9 @@ use Rattle.record.specs.declared.imm.ImmShape.{ImmShape}
 use Rattle.record.specs.declared.imm.ImmShape.TheVariants as Imm
 use Rattle.record.specs.declared.op.Op.{Op}
 use Rattle.record.specs.declared.op.Op.TheVariants.{ModRmRm, ModRmRmMemOnly, Vsib, O, ModRmReg, RegEmbed8, Reg, Hx, Ib, Id, Iq, J}
-use Rattle.record.specs.declared.sound.Record.{Record}
 use Rattle.record.specs.Immediates.{imm_after, imm_byte, imm_first, imm_count, imm_shape}
 use Rattle.record.specs.Rules.{branch_holds, op_imm_holds, shape_known}
-use Rattle.record.specs.Facts.{imm_bytes, ImmBytesKnown}
+use Rattle.record.specs.Facts.{ImmBytesKnown}
 use Rattle.record.proofs.Soundness.{both, rules_kept}
 
 branch_few : (n s : ℕ) (k : OpKind) → kind_number k ≡ n → branch_holds k s ≡ true → s ≤ 8

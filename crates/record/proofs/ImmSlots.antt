@@ -1,10 +1,9 @@
 -- The immediate operands of a sound record and the slots of its immediate field are as many.
-use Rattle.std.proofs.Common.{◌≡◌, ℕ, ◌+◌, Bool, true, false, ◌&&◌, Some, None, Option, sym, refl, ap, ◌∙◌, arith}
+use Rattle.std.proofs.Common.{◌≡◌, ℕ, ◌+◌, true, Some, None, Option, refl, arith}
 use Rattle.record.specs.declared.imm.ImmShape.{ImmShape}
 use Rattle.record.specs.declared.imm.ImmShape.TheVariants as Imm
 use Rattle.record.specs.declared.op.Op.{Op}
 use Rattle.record.specs.declared.op.Op.TheVariants.{ModRmRm, ModRmRmMemOnly, Vsib, O, ModRmReg, RegEmbed8, Reg, Hx, Ib, Id, Iq, J}
-use Rattle.record.specs.declared.sound.Record.{Record}
 use Rattle.record.specs.Classes.{bit}
 use Rattle.record.specs.Immediates.{imm_after, imm_byte, imm_first, imm_shape}
 use Rattle.record.specs.Rules.{shape_known}

@@ -1,13 +1,9 @@
 -- Whether a sound record has a ModRM byte follows from its operands and groups; its immediate bytes are few.
-use Rattle.std.proofs.Common.{◌≡◌, ℕ, ◌≤◌, Bool, true, false, not, ◌&&◌, ◌||◌, sym, refl, ap, ◌∙◌, arith}
-use Rattle.std.proofs.lemmas.Bool.Decides.{nat_tests}
+use Rattle.std.proofs.Common.{◌≡◌, Bool, true, false, ◌||◌, arith}
 use Rattle.record.specs.declared.class.Class.TheVariants.{Memory, Offset, RegSlot}
-use Rattle.record.specs.declared.imm.ImmShape.{ImmShape}
-use Rattle.record.specs.declared.imm.ImmShape.TheVariants as Imm
-use Rattle.record.specs.declared.sound.Record.{Record}
 use Rattle.record.specs.Classes.{has_class}
-use Rattle.record.specs.Rules.{mod_rm_fits, grouped, shape_known}
-use Rattle.record.specs.Facts.{has_mod_rm, ModRmFollows}
+use Rattle.record.specs.Rules.{mod_rm_fits, grouped}
+use Rattle.record.specs.Facts.{ModRmFollows}
 use Rattle.record.proofs.Soundness.{rules_kept}
 
 -- the rule over its five tests

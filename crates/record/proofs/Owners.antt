@@ -1,13 +1,12 @@
 -- Each slot of a sound record has at most one owner.
-use Rattle.std.proofs.Common.{◌≡◌, ℕ, ◌+◌, ◌≤◌, Bool, true, false, ◌&&◌, leb, List, [], ◌∷◌, ◌++◌, Option, sym, refl, ap, ◌∙◌, arith}
+use Rattle.std.proofs.Common.{◌≡◌, ℕ, ◌+◌, ◌≤◌, true, leb, List, [], ◌∷◌, ◌++◌, Option, ap, ◌∙◌, arith}
 use Rattle.std.proofs.lemmas.Bool.Decides.{nat_tests}
 use Rattle.record.specs.declared.class.Class.{Class}
 use Rattle.record.specs.declared.class.Class.TheVariants.{RmSlot, Memory, Broadcastable, Vector, Offset, Embedded, RegSlot, Vvvv}
 use Rattle.record.specs.declared.op.Op.{Op}
 use Rattle.record.specs.declared.op.Operands.{Operands}
 use Rattle.record.specs.declared.sound.Record.{Record}
-use Rattle.record.specs.Classes.{belongs_at, bit, class_count}
-use Rattle.record.specs.Rules.{slots_hold}
+use Rattle.record.specs.Classes.{bit, class_count}
 use Rattle.record.specs.Facts.{op_places, owners, is_slot, SlotsOwnedOnce}
 use Rattle.record.proofs.Soundness.{both, rules_kept}
 

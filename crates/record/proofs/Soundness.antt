@@ -1,10 +1,8 @@
 -- A sound record keeps every rule.
-use Rattle.std.proofs.Common.{◌≡◌, Bool, true, false, cond, not, ◌&&◌, is_some, Some, None, Option, refl, arith}
+use Rattle.std.proofs.Common.{◌≡◌, Bool, true, false, cond, not, ◌&&◌, is_some, Some, Option, refl, arith}
 use Rattle.fault.specs.declared.rule.Rule.{Rule}
-use Rattle.record.specs.declared.raw.RawRecord.{RawRecord}
-use Rattle.record.specs.declared.sound.Record.{Record}
-use Rattle.record.specs.Rules.{broken, fields_hold, ranges_hold, slots_hold, mod_rm_holds, immediates_hold, heads_hold, modes_hold, first_byte_holds}
-use Rattle.record.specs.Facts.{Sound, RulesKept}
+use Rattle.record.specs.Rules.{fields_hold, ranges_hold, slots_hold, mod_rm_holds, immediates_hold, heads_hold, modes_hold, first_byte_holds}
+use Rattle.record.specs.Facts.{RulesKept}
 
 -- of two tests that hold together, each
 pub both : (a b : Bool) → (a && b) ≡ true → (a ≡ true) × (b ≡ true)

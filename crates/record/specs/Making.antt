@@ -1,4 +1,4 @@
-use Rattle.std.specs.Prelude.{◌≡◌, false, is_some, Some, None, Ok, Err, Option, Result, refl}
+use Rattle.std.specs.Prelude.{◌≡◌, is_some, Some, None, Ok, Err, Option, Result, refl}
 use Rattle.std.proofs.Common.{ap}
 use Rattle.fault.specs.declared.rule.Rule.{Rule}
 use Rattle.fault.specs.declared.making.MakingFault.{MakingFault}

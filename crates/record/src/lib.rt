@@ -1,4 +1,6 @@
 // Records: what an instruction's encoding consists of, and the rules under which a record is sound.
+#![tactic(auto)]
+
 mod class;
 mod flags;
 mod head;

@@ -6,7 +6,7 @@ use Rattle.fault.specs.declared.operand.OperandFault.TheVariants as F
 use Rattle.machine.specs.declared.mode.Mode.{Mode}
 use Rattle.machine.specs.declared.op_kind.OpKind.{OpKind}
 use Rattle.machine.specs.declared.place.Place.{Place}
-use Rattle.machine.specs.Modes.{is64, mode_bytes}
+use Rattle.gather.specs.Address.{is64, mode_bytes}
 use Rattle.machine.specs.OpKinds.{kind_number}
 use Rattle.instruction.specs.declared.made.Instruction.{Instruction}
 use Rattle.instruction.specs.Getters.{op_kind_at, op_register_at, imm64, low8}

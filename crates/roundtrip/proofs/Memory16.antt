@@ -4,7 +4,7 @@ use Rattle.std.proofs.lemmas.Bool.Decides.{nat_tests}
 use Rattle.fault.specs.declared.operand.OperandFault.TheVariants as F
 use Rattle.machine.specs.declared.mode.Mode.{Mode}
 use Rattle.machine.specs.declared.mode.Mode.TheVariants.{Bits16, Bits32, Bits64}
-use Rattle.machine.specs.Modes.{is64, mode_bytes}
+use Rattle.gather.specs.Address.{is64, mode_bytes}
 use Rattle.machine.specs.Scales.{scale_number}
 use Rattle.instruction.specs.declared.made.Instruction.{Instruction}
 use Rattle.instruction.specs.Getters.{displ_bytes}
@@ -110,15 +110,15 @@ module _ (f : ℤ → ℤ) (m : Mode) (must : Bool) (vsib : Option RegisterRange
     none16 : (p : RmPart) → (eqb i.memory.base.number 26 && eqb i.memory.index.number 0) ≡ false → i.mem_displ ≡ 0 → ◌≡◌ {A = Result RmPart Refusal} (Ok (plain_part 0 rm D.Absent)) (Ok p) → Says f m must vsib i 2 p
     none16 p bp z e =
         let w = row i.memory.base.number i.memory.index.number rm 0 r some (λ _. bp) in
-        let not_6 : rm ≡ 6 → ⊥ = λ k. (let q : base16 (mod_rm_read 0 0 (plain_part 0 6 D.Absent)) ≡ i.memory.base.number = ap (λ y. base16 (mod_rm_read 0 0 (plain_part 0 y D.Absent))) (sym k) ∙ w.base-is in let u : index16 (mod_rm_read 0 0 (plain_part 0 6 D.Absent)) ≡ i.memory.index.number = ap (λ y. index16 (mod_rm_read 0 0 (plain_part 0 y D.Absent))) (sym k) ∙ w.index_is in clash (eqb i.memory.base.number 0 && eqb i.memory.index.number 0) (grind (arith, nat_tests)) some) in
+        let not_6 : rm ≡ 6 → ⊥ = λ k. (let q : base16 (mod_rm_read 0 0 (plain_part 0 6 D.Absent)) ≡ i.memory.base.number = ap (λ y. base16 (mod_rm_read 0 0 (plain_part 0 y D.Absent))) (sym k) ∙ w.base_is in let u : index16 (mod_rm_read 0 0 (plain_part 0 6 D.Absent)) ≡ i.memory.index.number = ap (λ y. index16 (mod_rm_read 0 0 (plain_part 0 y D.Absent))) (sym k) ∙ w.index_is in clash (eqb i.memory.base.number 0 && eqb i.memory.index.number 0) (grind (arith, nat_tests)) some) in
         let size : displ_size 2 (mod_rm_read 0 0 (plain_part 0 rm D.Absent)) ≡ 0 = grind (arith, nat_tests) in
-        coe 0 1 (j. Says f m must vsib i 2 (same_ok _ p e j)) (says16 0 rm D.Absent (omega arith) w.rm-lt w.base-is w.index_is w.counted size (λ place imm. ap (modulo 2) (sym z)))
+        coe 0 1 (j. Says f m must vsib i 2 (same_ok _ p e j)) (says16 0 rm D.Absent (omega arith) w.rm_lt w.base_is w.index_is w.counted size (λ place imm. ap (modulo 2) (sym z)))
 
     two16 : (p : RmPart) → ◌≡◌ {A = Result RmPart Refusal} (Ok (plain_part 2 rm (D.Size2 (i.mem_displ % 65536)))) (Ok p) → Says f m must vsib i 2 p
     two16 p e =
         let w = row i.memory.base.number i.memory.index.number rm 2 r some (λ z. absurd (omega arith)) in
         let twice : i.mem_displ % 65536 % 65536 % 65536 ≡ i.mem_displ % 65536 = omega arith in
-        coe 0 1 (j. Says f m must vsib i 2 (same_ok _ p e j)) (says16 2 rm (D.Size2 (i.mem_displ % 65536)) (omega arith) w.rm-lt w.base-is w.index_is w.counted refl (λ place imm. twice))
+        coe 0 1 (j. Says f m must vsib i 2 (same_ok _ p e j)) (says16 2 rm (D.Size2 (i.mem_displ % 65536)) (omega arith) w.rm_lt w.base_is w.index_is w.counted refl (λ place imm. twice))
 
     one16_says : (p : RmPart) → ◌≡◌ {A = Result RmPart Refusal} (Ok (one16 f rm i.mem_displ)) (Ok p) → Says f m must vsib i 2 p
     one16_says p e = go (lowest f (to_z w16 (i.mem_displ % 65536))) refl e
@@ -128,7 +128,7 @@ module _ (f : ℤ → ℤ) (m : Mode) (must : Bool) (vsib : Option RegisterRange
             let k = lowest_some f (to_z w16 (i.mem_displ % 65536)) v l in
             let w = row i.memory.base.number i.memory.index.number rm 1 r some (λ z. absurd (omega arith)) in
             let byte : of_z w64 (f (to_z w8 (of_z w8 v))) % 65536 ≡ i.mem_displ % 65536 = ap (λ z. of_z w64 (f z) % 65536) (byte_back v k.0) ∙ ap (λ z. of_z w64 z % 65536) k.1 ∙ signed16 (i.mem_displ % 65536) (omega arith) in
-            coe 0 1 (j. Says f m must vsib i 2 (same_ok _ p e j)) (says16 1 rm (D.Size1 (of_z w8 v)) (omega arith) w.rm-lt w.base-is w.index_is w.counted refl (λ place imm. byte))
+            coe 0 1 (j. Says f m must vsib i 2 (same_ok _ p e j)) (says16 1 rm (D.Size1 (of_z w8 v)) (omega arith) w.rm_lt w.base_is w.index_is w.counted refl (λ place imm. byte))
         go None l e = two16 p e
 
     sized16_says : (p : RmPart) (size : ℕ) → (size ≡ 0 → (eqb i.memory.base.number 26 && eqb i.memory.index.number 0) ≡ false) → sized16 f rm i.mem_displ size ≡ Ok p → Says f m must vsib i 2 p

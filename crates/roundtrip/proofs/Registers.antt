@@ -3,7 +3,7 @@ use Rattle.std.proofs.Common.{◌≡◌, ℕ, ◌+◌, ◌-◌, ◌*◌, ◌/◌
 use Rattle.std.proofs.lemmas.Bool.Decides.{nat_tests}
 use Rattle.machine.specs.declared.mode.Mode.{Mode}
 use Rattle.machine.specs.Bytes.{byte_register}
-use Rattle.machine.specs.Modes.{is64}
+use Rattle.gather.specs.Address.{is64}
 use Rattle.record.specs.declared.head.Head.{Head}
 use Rattle.record.specs.declared.op.RegisterRange.{RegisterRange}
 use Rattle.record.specs.Facts.{BankFacts}

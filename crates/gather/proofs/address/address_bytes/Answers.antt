@@ -5,9 +5,9 @@ use Rattle.gather.proofs.address.address_bytes.Goals as goal
 pub returns : goal.returns
 unfolding address_bytes
 returns c =
-    let j = c.joined-bytes.ensures in
-    let b = c.register-bytes-base.ensures.value in
-    let x = c.register-bytes-index.ensures.value in
-    let d = c.memory-displ-size-displ.ensures in
-    let k = c.code-bytes-code.ensures in
-    c.address-chosen.ensures ∙ rw (j, b, x, d, k)
+    let j = c.joined_bytes.ensures in
+    let b = c.register_bytes-base.ensures.value in
+    let x = c.register_bytes-index.ensures.value in
+    let d = c.memory_displ_size-displ.ensures in
+    let k = c.code_bytes-code.ensures in
+    c.address_chosen.ensures ∙ rw (j, b, x, d, k)

@@ -4,4 +4,4 @@ use Rattle.gather.proofs.gathering.gather.Goals as goal
 
 pub returns : goal.returns
 unfolding gathered
-returns g c = record { value = c.in-order.ensures; one_byte = one_byte_exactly }
+returns g c = record { value = c.in_order.ensures; one_byte = one_byte_exactly }

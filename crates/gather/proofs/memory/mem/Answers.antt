@@ -2,13 +2,13 @@ use Rattle.std.proofs.Common.{rules}
 use Rattle.gather.specs.Memory.{mem}
 use Rattle.gather.proofs.memory.mem.Goals as goal
 
-pub returns-in-err-mem-checked : goal.returns-in-err-mem-checked
+pub returns-in_err-mem_checked : goal.returns-in_err-mem_checked
 unfolding mem
-returns-in-err-mem-checked g c = search rules
+returns-in_err-mem_checked g c = search rules
 
-pub returns-then-is-rip : goal.returns-then-is-rip
+pub returns-then-is_rip : goal.returns-then-is_rip
 unfolding mem
-returns-then-is-rip g c = search rules
+returns-then-is_rip g c = search rules
 
 pub returns : goal.returns
 unfolding mem

@@ -2,9 +2,9 @@ use Rattle.std.proofs.Common.{rules}
 use Rattle.gather.specs.Memory.{offset_mem}
 use Rattle.gather.proofs.memory.offset_mem.Goals as goal
 
-pub returns-then-is-some : goal.returns-then-is-some
+pub returns-then-is_some : goal.returns-then-is_some
 unfolding offset_mem
-returns-then-is-some c = search rules
+returns-then-is_some c = search rules
 
 pub returns-then-is64 : goal.returns-then-is64
 unfolding offset_mem

@@ -14,9 +14,9 @@ pub returns-then-not-is64 : goal.returns-then-not-is64
 unfolding rip_mem
 returns-then-not-is64 c = search rules
 
-pub returns-then-must-use-sib : goal.returns-then-must-use-sib
+pub returns-then-must_use_sib : goal.returns-then-must_use_sib
 unfolding rip_mem
-returns-then-must-use-sib c = search rules
+returns-then-must_use_sib c = search rules
 
 pub returns : goal.returns
 unfolding rip_mem

@@ -1,4 +1,4 @@
-use Rattle.std.proofs.Common.{ap, ◌∙◌, rules}
+use Rattle.std.proofs.Common.{ap, ◌∙◌}
 use Rattle.instruction.specs.Making.{or_field, register_made}
 use Rattle.instruction.proofs.making.known_register.Goals as goal
 

@@ -6,9 +6,9 @@ pub returns-then-number-eq0 : goal.returns-then-number-eq0
 unfolding segment_made
 returns-then-number-eq0 c = search rules
 
-pub returns-in-err-segment : goal.returns-in-err-segment
+pub returns-in_err-segment : goal.returns-in_err-segment
 unfolding segment_made
-returns-in-err-segment c = search rules
+returns-in_err-segment c = search rules
 
 pub returns : goal.returns
 unfolding segment_made

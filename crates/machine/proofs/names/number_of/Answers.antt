@@ -8,7 +8,7 @@ returns-then-same c =
     let i = c.loop-i.i in
     let w = c.args.name in
     let within : i < length names = omega (arith, names_length) in
-    let hit : same_name (get_or names i []) w ≡ true = sym (ap (λ v. same_name v w) c.name-of.ensures) ∙ sym c.same.ensures ∙ c.if-same.true in
+    let hit : same_name (get_or names i []) w ≡ true = sym (ap (λ v. same_name v w) c.name_of.ensures) ∙ sym c.same.ensures ∙ c.if-same.true in
     sym (name_hit names w i within hit) ∙ c.loop-i.invariant
 
 pub loop-i-preserved : goal.loop-i-preserved
@@ -16,7 +16,7 @@ loop-i-preserved c =
     let i = c.loop-i.i in
     let w = c.args.name in
     let within : i < length names = omega (arith, names_length) in
-    let miss : same_name (get_or names i []) w ≡ false = sym (ap (λ v. same_name v w) c.name-of.ensures) ∙ sym c.same.ensures ∙ c.if-same.false in
+    let miss : same_name (get_or names i []) w ≡ false = sym (ap (λ v. same_name v w) c.name_of.ensures) ∙ sym c.same.ensures ∙ c.if-same.false in
     sym (name_miss names w i within miss) ∙ c.loop-i.invariant
 
 pub returns : goal.returns

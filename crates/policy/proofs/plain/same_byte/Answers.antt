@@ -7,5 +7,5 @@ use Rattle.policy.proofs.plain.same_byte.Goals as goal
 pub returns : goal.returns
 returns c =
     let fits = c.ranges.displ in
-    let e : c.signed-byte.result ≡ byte_of c.args.displ = simp to_z-of_z at c.signed-byte.ensures in
+    let e : c.signed_byte.result ≡ byte_of c.args.displ = simp to_z-of_z at c.signed_byte.ensures in
     e ∙ plain_lowest c.args.displ

@@ -9,8 +9,8 @@ returns-then-at-rows c =
     let past : length built_rows ≤ c.args.number = omega (arith, ap length c.rows-rows.ensures) in
     sym (row_past built_rows c.args.number past)
 
-pub invariant-of-result : goal.invariant-of-result
-invariant-of-result c = (ap (λ x. is_some (broken x)) c.row.ensures ∙ built_at c.rows-rows.result.now c.rows-rows.ensures c.args.number c.row.result c.if-at-rows.false, tt)
+pub invariant_of-result : goal.invariant_of-result
+invariant_of-result c = record { sound = ap (λ x. is_some (broken x)) c.row.ensures ∙ built_at c.rows-rows.result.now c.rows-rows.ensures c.args.number c.row.result c.if-at-rows.false }
 
 pub returns : goal.returns
 returns c = built_row c.rows-rows.result.now c.rows-rows.ensures c.args.number c.row.result _ c.if-at-rows.false c.row.ensures

@@ -4,10 +4,10 @@ use Rattle.encoder.specs.Lines.{used}
 use Rattle.encoder.proofs.Tail.{tail_push}
 use Rattle.encoder.proofs.line.Line.push.Goals as goal
 
-pub invariant-of-self : goal.invariant-of-self
-invariant-of-self c =
+pub invariant_of-self : goal.invariant_of-self
+invariant_of-self c =
     let l = c.args.self.now in
-    (omega arith, (length-set l.bytes l.count c.args.b ∙ l.size, (tail_push l.bytes l.count c.args.b l.tail, tt)))
+    record { fits = omega arith; size = length-set l.bytes l.count c.args.b ∙ l.size; tail = tail_push l.bytes l.count c.args.b l.tail }
 
 pub returns : goal.returns
 unfolding used

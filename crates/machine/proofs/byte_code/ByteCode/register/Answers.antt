@@ -10,6 +10,6 @@ returns c =
     let k = c.args.number in
     let inside : ltb k 16 ≡ true = lt-ltb k 16 c.if-number-ge16.false in
     record {
-      value = c.new.ensures.value ∙ ap register_of c.register-number.ensures ∙ sym (cond-true (ltb k 16) (register_of (byte_register k c.args.rex)) None inside);
+      value = c.new.ensures.value ∙ ap register_of c.register_number.ensures ∙ sym (cond-true (ltb k 16) (register_of (byte_register k c.args.rex)) None inside);
       back = byte_back;
     }

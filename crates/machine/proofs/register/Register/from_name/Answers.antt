@@ -1,4 +1,4 @@
-use Rattle.std.proofs.Common.{ℕ, Some, None, Option, ap, ◌∙◌, rules}
+use Rattle.std.proofs.Common.{ℕ, Some, None, Option, ap, ◌∙◌}
 use Rattle.machine.specs.Registers.{register_of}
 use Rattle.machine.proofs.Named.{name_there, name_back}
 use Rattle.machine.proofs.register.Register.from_name.Goals as goal

@@ -5,4 +5,4 @@ use Rattle.machine.proofs.Banked.{bank_there}
 use Rattle.machine.proofs.register.Register.index.Goals as goal
 
 pub returns : goal.returns
-returns c = record { value = c.place-in.ensures ∙ ap (λ (o : Option Bank). place_in o c.args.self.number) c.bank.ensures; there = bank_there }
+returns c = record { value = c.place_in.ensures ∙ ap (λ (o : Option Bank). place_in o c.args.self.number) c.bank.ensures; there = bank_there }

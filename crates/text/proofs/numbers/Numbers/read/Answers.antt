@@ -9,13 +9,13 @@ loop-place-init c = refl
 pub loop-place-preserved : goal.loop-place-preserved
 loop-place-preserved c =
     let s = c.loop-place in
-    read_ok s.all s.last c.args.line.now s.place s.at (c.in-ok-number.number, c.in-ok-number.end) c.loop-place-test.true (sym c.in-ok-number.ensures) ∙ s.invariant
+    read_ok s.all s.last c.args.line.now s.place s.at (c.in_ok-number.number, c.in_ok-number.end) c.loop-place-test.true (sym c.in_ok-number.ensures) ∙ s.invariant
 
-pub returns-in-err-number : goal.returns-in-err-number
-returns-in-err-number c =
+pub returns-in_err-number : goal.returns-in_err-number
+returns-in_err-number c =
     let s = c.loop-place in
-    let p = err_from_is_err_and c.from-residual.result c.from-residual.ensures.1 in
-    let e = read_err s.all s.last c.args.line.now s.place s.at c.in-err-number.field-0.0 c.loop-place-test.true (sym c.in-err-number.ensures) in
+    let p = err_from_is_err_and c.from_residual.result c.from_residual.ensures.1 in
+    let e = read_err s.all s.last c.args.line.now s.place s.at c.in_err-number.field-0.0 c.loop-place-test.true (sym c.in_err-number.ensures) in
     p.1 ∙ ap Err p.2 ∙ sym e ∙ s.invariant
 
 pub returns-then-at-line : goal.returns-then-at-line
