@@ -1,5 +1,7 @@
 // Times the encoder on a corpus of case lines. Without an argument it encodes each case once and prints the counts; with
 // the argument `figures` it goes on to time rounds over the whole corpus.
+#![tactic(auto)]
+
 use encoder::{RawSettings, encode};
 use instruction::Instruction;
 use policy::{PortPolicy, port_policy};

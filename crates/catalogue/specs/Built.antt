@@ -1,5 +1,5 @@
 -- The built-in table: ten records, by number.
-use Rattle.std.specs.Prelude.{ℕ, Bool, true, false, List, [], ◌∷◌, pos, negsuc, Some, None, Option}
+use Rattle.std.specs.Prelude.{false, List, [], ◌∷◌, pos, negsuc, Some, None}
 use Rattle.machine.specs.declared.code_size.CodeSize.TheVariants.{Unknown, Code32, Code64}
 use Rattle.machine.specs.declared.op_kind.OpKind.TheVariants.{Immediate8to32, NearBranch64}
 use Rattle.record.specs.declared.head.Head.{Head}

@@ -1,5 +1,5 @@
 -- What a catalogue means: for each number, no record or one sound record.
-use Rattle.std.specs.Prelude.{◌≡◌, ℕ, zero, suc, cond, List, [], ◌∷◌, is_some, Some, None, Option, ◌==◌, nat_lt}
+use Rattle.std.specs.Prelude.{◌≡◌, ℕ, zero, suc, cond, List, [], ◌∷◌, is_some, None, Option, ◌==◌, nat_lt}
 use Rattle.record.specs.declared.raw.RawRecord.{RawRecord}
 use Rattle.record.specs.declared.sound.Record.{Record}
 use Rattle.record.specs.Making.{record_of, sound_or_none}

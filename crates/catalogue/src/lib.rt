@@ -1,4 +1,6 @@
 // Catalogues: which records there are, by number.
+#![tactic(auto)]
+
 mod allow_list;
 mod allowing;
 mod built_in;

@@ -1,5 +1,5 @@
 -- Lengths: of the fields, and of the whole.
-use Rattle.std.proofs.Common.{◌≡◌, ℕ, ◌+◌, ◌≤◌, Bool, true, false, cond, ltb, List, [], ◌∷◌, ◌++◌, length, Some, None, Ok, Err, Option, Result, sym, refl, ap, ◌∙◌, arith, length-append}
+use Rattle.std.proofs.Common.{◌≡◌, ℕ, ◌+◌, ◌≤◌, Bool, true, false, ltb, List, length, Some, None, Ok, Option, sym, refl, ap, ◌∙◌, arith, length-append}
 use Rattle.std.proofs.lemmas.Bool.Decides.{nat_tests}
 use Rattle.fault.specs.declared.encode.EncodeFault.{EncodeFault}
 use Rattle.fault.specs.declared.encoding.EncodingFault.{EncodingFault}
@@ -14,12 +14,11 @@ use Rattle.gather.specs.declared.parts.Imm.TheVariants as I
 use Rattle.gather.specs.declared.parts.Parts.{Parts}
 use Rattle.gather.specs.Gathered.{gathered}
 use Rattle.gather.specs.Steps.{Spread}
-use Rattle.record.specs.declared.raw.RawRecord.{RawRecord}
 use Rattle.record.specs.declared.sound.Record.{Record}
 use Rattle.encoder.specs.declared.settings.RawSettings.{RawSettings}
 use Rattle.encoder.specs.declared.settings.Settings.{Settings}
-use Rattle.encoder.specs.Encode.{EncodingOf, first_of, refuse_if, head_bytes, head_fault, code_bytes, displ_bytes_onto, rip_far, imm_bytes_onto, branch_far, vsib_bare, rounded_memory, finished_bytes, finished_fault, line_bytes, line_fault, answer_of, steps_of, settings_known, settings_of, refused_with, by_mode, encode_of}
-use Rattle.encoder.specs.Fields.{le2, le4, imm_length, displ_onto, imm_onto}
+use Rattle.encoder.specs.Encode.{first_of, refuse_if, head_bytes, code_bytes, displ_bytes_onto, imm_bytes_onto, line_bytes, line_fault, answer_of, steps_of, settings_known, settings_of, by_mode, encode_of}
+use Rattle.encoder.specs.Fields.{imm_length, displ_onto, imm_onto}
 use Rattle.encoder.specs.Laws.{LengthWithoutAddress, AnswerIsLength}
 
 abbrev displ_length : Displ → ℕ

@@ -1,5 +1,5 @@
 -- An instruction's encoding: the bytes written, and the length or the first refusal.
-use Rattle.std.specs.Prelude.{ℕ, ◌+◌, ◌%◌, Bool, true, false, cond, not, ◌&&◌, ◌||◌, List, [], ◌∷◌, ◌++◌, length, Some, None, Ok, Err, Option, Result, ◌==◌, nat_le, nat_lt}
+use Rattle.std.specs.Prelude.{ℕ, ◌+◌, ◌%◌, Bool, cond, not, ◌&&◌, ◌||◌, List, [], ◌++◌, length, Some, None, Ok, Err, Option, Result, ◌==◌, nat_le, nat_lt}
 use Rattle.fault.specs.declared.encode.EncodeFault.{EncodeFault}
 use Rattle.fault.specs.declared.encode.EncodeFault.TheVariants.{Encoding}
 use Rattle.fault.specs.declared.encoding.EncodingFault.{EncodingFault}
@@ -25,7 +25,6 @@ use Rattle.record.specs.Classes.{belongs_at, has_class}
 use Rattle.record.specs.Facts.{op_at, has_mod_rm}
 use Rattle.record.specs.Flags.{has_flag}
 use Rattle.record.specs.Rules.{is_evex}
-use Rattle.encoder.specs.declared.settings.EvexLig.{EvexLig}
 use Rattle.encoder.specs.declared.settings.RawSettings.{RawSettings}
 use Rattle.encoder.specs.declared.settings.Settings.{Settings}
 use Rattle.encoder.specs.Fields.{opcode_number, opcode_onto, mod_rm_onto, imm_length, displ_onto, displ_far, imm_onto, imm_far}

@@ -1,5 +1,5 @@
 -- Opcode, ModRM, SIB, displacement and immediate, put behind the bytes so far.
-use Rattle.std.specs.Prelude.{ℕ, ◌+◌, ◌-◌, ◌*◌, ◌/◌, ◌%◌, Bool, true, false, cond, not, ◌&&◌, ◌||◌, List, [], ◌∷◌, ◌++◌, length, Some, None, Option, nat_le, nat_lt}
+use Rattle.std.specs.Prelude.{ℕ, ◌+◌, ◌-◌, ◌*◌, ◌/◌, ◌%◌, Bool, false, cond, not, ◌||◌, List, [], ◌∷◌, ◌++◌, Some, None, Option, nat_le, nat_lt}
 use Rattle.gather.specs.declared.parts.Displ.{Displ}
 use Rattle.gather.specs.declared.parts.Displ.TheVariants as D
 use Rattle.gather.specs.declared.parts.Imm.{Imm}

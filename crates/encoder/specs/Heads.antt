@@ -7,7 +7,6 @@ use Rattle.machine.specs.Opmasks.{opmask_number}
 use Rattle.machine.specs.Roundings.{rounding_number}
 use Rattle.machine.specs.Segments.{segment_prefix}
 use Rattle.instruction.specs.declared.made.EvexFields.{EvexFields}
-use Rattle.instruction.specs.declared.made.Instruction.{Instruction}
 use Rattle.instruction.specs.declared.made.PrefixFields.{PrefixFields}
 use Rattle.gather.specs.declared.parts.HeadFlags.{HeadFlags}
 use Rattle.gather.specs.declared.parts.Parts.{Parts}
@@ -17,7 +16,6 @@ use Rattle.record.specs.declared.head.EvexHead.{EvexHead}
 use Rattle.record.specs.declared.head.LegacyHead.{LegacyHead}
 use Rattle.record.specs.declared.head.VexHead.{VexHead}
 use Rattle.record.specs.Flags.{has_flag}
-use Rattle.encoder.specs.declared.settings.EvexLig.{EvexLig}
 use Rattle.encoder.specs.declared.settings.Settings.{Settings}
 use Rattle.encoder.specs.Lines.{opt}
 

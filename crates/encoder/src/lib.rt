@@ -1,4 +1,6 @@
 // The encoder: operands, head and fields of one instruction into a line of bytes.
+#![tactic(auto)]
+
 mod distance;
 mod encoding;
 mod fields;

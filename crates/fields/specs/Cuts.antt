@@ -1,5 +1,5 @@
 -- An instruction cut into its fields.
-use Rattle.std.specs.Prelude.{ℕ, ◌+◌, List, drop, Ok, Err, Result}
+use Rattle.std.specs.Prelude.{ℕ, ◌+◌, List, drop, Ok, Result}
 use Rattle.fault.specs.declared.reader.ReadFault.{ReadFault}
 use Rattle.machine.specs.declared.mode.Mode.{Mode}
 use Rattle.record.specs.declared.raw.RawRecord.{RawRecord}
@@ -9,7 +9,7 @@ use Rattle.fields.specs.declared.cut.Cut.{Cut}
 use Rattle.fields.specs.declared.lead.Lead.{Lead}
 use Rattle.fields.specs.declared.mod_rm.ModRm.{ModRm}
 use Rattle.fields.specs.declared.prefixes.Prefixes.{Prefixes}
-use Rattle.fields.specs.Bytes.{then, window, number_of}
+use Rattle.fields.specs.Bytes.{then, number_of}
 use Rattle.fields.specs.Prefixes.{prefixes_of, address_width}
 use Rattle.fields.specs.Leads.{lead_of}
 use Rattle.fields.specs.Codes.{code_of}

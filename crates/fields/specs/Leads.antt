@@ -1,5 +1,5 @@
 -- What stands between prefixes and opcode: REX and table bytes, VEX or EVEX.
-use Rattle.std.specs.Prelude.{ℕ, ◌+◌, ◌-◌, ◌*◌, ◌/◌, ◌%◌, Bool, true, false, cond, not, ◌&&◌, ◌||◌, List, [], ◌∷◌, Ok, Err, Option, Result, ◌==◌, nat_le}
+use Rattle.std.specs.Prelude.{ℕ, ◌+◌, ◌-◌, ◌*◌, ◌/◌, ◌%◌, Bool, true, false, cond, not, ◌&&◌, ◌||◌, List, [], ◌∷◌, Ok, Err, Result, ◌==◌, nat_le}
 use Rattle.fault.specs.declared.reader.ReadFault.{ReadFault}
 use Rattle.fault.specs.declared.reader.ReadFault.TheVariants.{Ends, Differs}
 use Rattle.machine.specs.declared.mode.Mode.{Mode}
@@ -12,7 +12,6 @@ use Rattle.record.specs.declared.head.Head.{Head}
 use Rattle.record.specs.declared.head.Head.TheVariants.{Legacy, Vex, Evex}
 use Rattle.record.specs.declared.head.LegacyHead.{LegacyHead}
 use Rattle.record.specs.declared.head.VexHead.{VexHead}
-use Rattle.record.specs.declared.op.Op.{Op}
 use Rattle.record.specs.declared.raw.RawRecord.{RawRecord}
 use Rattle.record.specs.Flags.{has_flag}
 use Rattle.record.specs.Rules.{each, is_rex}

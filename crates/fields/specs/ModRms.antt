@@ -1,5 +1,5 @@
 -- ModRM and SIB, and how long a displacement they ask for.
-use Rattle.std.specs.Prelude.{ℕ, ◌+◌, ◌*◌, ◌/◌, ◌%◌, Bool, true, false, cond, not, ◌&&◌, ◌||◌, List, ℤ, pos, negsuc, Some, None, Ok, Err, Option, Result, ◌==◌}
+use Rattle.std.specs.Prelude.{ℕ, ◌+◌, ◌*◌, ◌/◌, ◌%◌, Bool, true, cond, not, ◌&&◌, ◌||◌, List, ℤ, pos, negsuc, Some, None, Ok, Option, Result, ◌==◌}
 use Rattle.fault.specs.declared.reader.ReadFault.{ReadFault}
 use Rattle.machine.specs.declared.mode.Mode.{Mode}
 use Rattle.gather.specs.Address.{is64}
@@ -7,7 +7,6 @@ use Rattle.record.specs.declared.class.Class.TheVariants.{RegSlot, Offset}
 use Rattle.record.specs.declared.flags.Flag.TheVariants as Flags
 use Rattle.record.specs.declared.op.Op.{Op}
 use Rattle.record.specs.declared.op.Op.TheVariants.{ModRmRm, ModRmRmMemOnly, Vsib, O, ModRmReg, RegEmbed8, Reg, Hx, Ib, Id, Iq, J}
-use Rattle.record.specs.declared.op.RegisterRange.{RegisterRange}
 use Rattle.record.specs.declared.raw.RawRecord.{RawRecord}
 use Rattle.record.specs.Classes.{has_class}
 use Rattle.record.specs.Facts.{has_mod_rm}

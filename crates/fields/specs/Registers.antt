@@ -1,5 +1,5 @@
 -- Registers by their numbers in the bytes.
-use Rattle.std.specs.Prelude.{ℕ, ◌+◌, ◌-◌, Bool, true, false, cond, not, ◌&&◌, ◌||◌, Some, None, Option, ◌==◌, nat_lt}
+use Rattle.std.specs.Prelude.{ℕ, ◌+◌, ◌-◌, Bool, true, cond, not, ◌&&◌, ◌||◌, Some, None, Option, ◌==◌, nat_lt}
 use Rattle.machine.specs.declared.mode.Mode.{Mode}
 use Rattle.gather.specs.Address.{is64}
 use Rattle.record.specs.declared.class.Class.{Class}

@@ -1,4 +1,6 @@
 // An instruction cut into its fields, as the manual lays them out, under the record that it is read with.
+#![tactic(auto)]
+
 mod code;
 mod cut;
 mod lead;

@@ -1,15 +1,11 @@
 -- One byte of displacement exactly where some byte stands for it.
-use Rattle.std.proofs.Common.{◌≡◌, ℕ, ◌%◌, Bool, true, false, cond, ℤ, is_some, Some, None, Ok, Err, Option, Result, sym, refl, ap, ◌∙◌, arith, w8, w16, w32, to_z, of_z}
-use Rattle.policy.specs.Lowest.{lowest, Reached}
+use Rattle.std.proofs.Common.{◌≡◌, ℕ, ◌%◌, ℤ, is_some, Some, None, Ok, Option, Result, sym, refl, ap, ◌∙◌, w16, w32, to_z}
+use Rattle.policy.specs.Lowest.{lowest}
 use Rattle.policy.proofs.LowestIs.{lowest_reached}
 use Rattle.gather.specs.declared.memory.Out.{Out}
-use Rattle.gather.specs.declared.memory.Out.TheVariants.{Nothing, Byte, Full, Wrong}
-use Rattle.gather.specs.declared.parts.Displ.TheVariants.{Size1, Size2}
-use Rattle.gather.specs.declared.parts.RmPart.{RmPart}
+use Rattle.gather.specs.declared.memory.Out.TheVariants.{Byte, Full}
 use Rattle.gather.specs.declared.refusal.Refusal.{Refusal}
-use Rattle.gather.specs.Memory.{displ_out}
-use Rattle.gather.specs.Memory16.{one16_of, one16}
-use Rattle.gather.specs.Parts.{plain_part}
+use Rattle.gather.specs.Memory16.{one16_of}
 use Rattle.gather.specs.Laws.{one_byte, is_size1, OneByteExactlyWhereOneStands}
 
 told : (o : Option ℤ) (out : Out) → ◌≡◌ {A = Result Out Refusal} (elim o [ Some v ↦ Ok (Byte v) | None ↦ Ok Full ]) (Ok out) → one_byte out ≡ is_some o

@@ -1,9 +1,8 @@
 -- Memory at an absolute offset.
-use Rattle.std.specs.Prelude.{ℕ, ◌%◌, Bool, true, false, cond, not, ◌&&◌, ◌||◌, Ok, Err, Result, ◌==◌, nat_lt}
+use Rattle.std.specs.Prelude.{ℕ, ◌%◌, false, cond, not, ◌||◌, Ok, Err, Result, ◌==◌, nat_lt}
 use Rattle.fault.specs.declared.operand.OperandFault.{OperandFault}
 use Rattle.fault.specs.declared.operand.OperandFault.TheVariants as F
 use Rattle.machine.specs.declared.mode.Mode.{Mode}
-use Rattle.machine.specs.declared.mode.Mode.TheVariants.{Bits16, Bits32, Bits64}
 use Rattle.machine.specs.declared.op_kind.OpKind.{OpKind}
 use Rattle.machine.specs.Scales.{scale_number}
 use Rattle.instruction.specs.declared.made.Instruction.{Instruction}

@@ -1,5 +1,5 @@
 -- All operands of an instruction, in the order of their places.
-use Rattle.std.specs.Prelude.{ℕ, Bool, true, false, cond, not, ◌&&◌, ◌||◌, ℤ, pos, negsuc, Some, None, Ok, Err, Option, Result, ◌==◌}
+use Rattle.std.specs.Prelude.{ℕ, Bool, true, false, cond, not, ◌&&◌, ℤ, pos, negsuc, Some, None, Ok, Err, Option, Result, ◌==◌}
 use Rattle.fault.specs.declared.encode.EncodeFault.{EncodeFault}
 use Rattle.fault.specs.declared.encode.EncodeFault.TheVariants.{Operand, Encoding}
 use Rattle.fault.specs.declared.encoding.EncodingFault.TheVariants as E
@@ -11,7 +11,6 @@ use Rattle.machine.specs.declared.place.Place.{Place}
 use Rattle.machine.specs.declared.place.Place.TheVariants.{Op0, Op1, Op2, Op3, Op4}
 use Rattle.instruction.specs.declared.made.Instruction.{Instruction}
 use Rattle.record.specs.declared.flags.Flag.TheVariants as Flags
-use Rattle.record.specs.declared.op.Op.{Op}
 use Rattle.record.specs.declared.raw.RawRecord.{RawRecord}
 use Rattle.record.specs.declared.sound.Record.{Record}
 use Rattle.record.specs.Facts.{op_at}

@@ -1,5 +1,5 @@
 -- Immediate operands and branches.
-use Rattle.std.specs.Prelude.{ℕ, Bool, true, false, cond, not, Ok, Err, Result, ◌==◌}
+use Rattle.std.specs.Prelude.{ℕ, Bool, false, cond, not, Ok, Err, Result, ◌==◌}
 use Rattle.fault.specs.declared.operand.OperandFault.{OperandFault}
 use Rattle.fault.specs.declared.operand.OperandFault.TheVariants as F
 use Rattle.machine.specs.declared.mode.Mode.{Mode}

@@ -1,5 +1,5 @@
 -- Memory operands with 32-bit and 64-bit addresses.
-use Rattle.std.specs.Prelude.{ℕ, ◌+◌, ◌-◌, ◌/◌, ◌%◌, Bool, true, false, cond, not, ◌&&◌, ◌||◌, ℤ, is_some, Some, None, Ok, Err, Option, Result, ◌==◌, nat_le, nat_lt}
+use Rattle.std.specs.Prelude.{ℕ, ◌-◌, ◌/◌, ◌%◌, Bool, true, false, cond, not, ◌&&◌, ◌||◌, ℤ, is_some, Some, None, Ok, Option, Result, ◌==◌, nat_le, nat_lt}
 use Rattle.std.proofs.Common.{to_z, of_z}
 use Rattle.std.specs.Int.{w8, w32}
 use Rattle.fault.specs.declared.operand.OperandFault.TheVariants as F
@@ -15,7 +15,6 @@ use Rattle.gather.specs.declared.memory.Out.TheVariants.{Nothing, Byte, Full, Wr
 use Rattle.gather.specs.declared.parts.Displ.{Displ}
 use Rattle.gather.specs.declared.parts.Displ.TheVariants.{Absent, Size1, Size4, RipRelSize4Target32, RipRelSize4Target64}
 use Rattle.gather.specs.declared.parts.RmPart.{RmPart}
-use Rattle.gather.specs.declared.parts.Sib.{Sib}
 use Rattle.gather.specs.declared.refusal.Refusal.{Refusal}
 use Rattle.gather.specs.Address.{is64, in_range}
 use Rattle.gather.specs.Parts.{plain_part, blank, refusing, then}

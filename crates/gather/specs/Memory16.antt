@@ -1,5 +1,5 @@
 -- Memory operands with 16-bit addresses.
-use Rattle.std.specs.Prelude.{ℕ, ◌%◌, Bool, true, false, cond, not, ◌&&◌, ◌||◌, ℤ, Some, None, Ok, Err, Option, Result, ◌==◌, nat_lt}
+use Rattle.std.specs.Prelude.{ℕ, ◌%◌, Bool, cond, ◌&&◌, ℤ, Some, None, Ok, Option, Result, ◌==◌, nat_lt}
 use Rattle.std.proofs.Common.{to_z, of_z}
 use Rattle.std.specs.Int.{w8, w16}
 use Rattle.fault.specs.declared.operand.OperandFault.TheVariants.{Address16In64, Registers16, DisplacementU16, Displacement16, DisplacementNotZero, Size16}

@@ -1,10 +1,9 @@
 -- Parts that operands leave.
-use Rattle.std.specs.Prelude.{ℕ, Some, None, Ok, Err, Option, Result}
+use Rattle.std.specs.Prelude.{ℕ, None, Ok, Err, Result}
 use Rattle.fault.specs.declared.operand.OperandFault.{OperandFault}
 use Rattle.gather.specs.declared.parts.Displ.{Displ}
 use Rattle.gather.specs.declared.parts.Displ.TheVariants.{Absent}
 use Rattle.gather.specs.declared.parts.RmPart.{RmPart}
-use Rattle.gather.specs.declared.parts.Sib.{Sib}
 use Rattle.gather.specs.declared.refusal.Refusal.{Refusal}
 
 -- ModRM.mod and rm with a displacement, and nothing else

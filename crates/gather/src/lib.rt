@@ -1,4 +1,6 @@
 // Gathering: each operand into the parts of the encoding, or its refusal with what it leaves.
+#![tactic(auto)]
+
 mod absolute;
 mod address;
 mod gathering;

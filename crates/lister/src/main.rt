@@ -1,4 +1,6 @@
 // Encodes a listing: instructions as people write them, each with its bytes or what is refused.
+#![tactic(auto)]
+
 mod lister;
 mod shown;
 

@@ -12,6 +12,8 @@
 // `[RIP+0x2000]` the number is the target. Without `/` the size is 0 where there is no displacement or the base is RIP
 // or EIP, the mode's size (2, 4 or 8) where there is no register, else 1. Of a number that is too large for its
 // operand the low bits count. A vector register, or one with a factor, is the index; else the first register is the base.
+#![tactic(auto)]
+
 mod digits;
 mod draft;
 mod drafting;

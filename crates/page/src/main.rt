@@ -1,4 +1,6 @@
 // Judges a catalogue that people write: each row is sound, or breaks a rule, or cannot be read.
+#![tactic(auto)]
+
 mod judge;
 mod row_text;
 mod show_flags;

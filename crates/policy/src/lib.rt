@@ -1,4 +1,6 @@
 // Displacement policies: which number a displacement of one byte stands for, and which byte stands for a number.
+#![tactic(auto)]
+
 mod byte;
 mod chooser;
 mod plain;

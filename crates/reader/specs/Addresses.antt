@@ -1,5 +1,5 @@
 -- Memory operands, by the manual's tables of 16-bit and of 32-bit and 64-bit addressing forms.
-use Rattle.std.specs.Prelude.{ℕ, ◌+◌, ◌*◌, ◌/◌, ◌%◌, Bool, true, false, cond, not, ◌&&◌, ◌||◌, ℤ, Some, None, Option, ◌==◌}
+use Rattle.std.specs.Prelude.{ℕ, ◌+◌, ◌*◌, ◌%◌, Bool, cond, ◌&&◌, ◌||◌, ℤ, Some, None, Option, ◌==◌}
 use Rattle.std.specs.Int.{w8, w32, w64}
 use Rattle.std.proofs.Common.{to_z, of_z}
 use Rattle.machine.specs.declared.mode.Mode.{Mode}

@@ -1,4 +1,6 @@
 // Reads an instruction back from its bytes under a record: operands in plain numbers, each with the place of its bytes.
+#![tactic(auto)]
+
 mod field;
 mod operand;
 mod reading;

@@ -1,4 +1,6 @@
 // Replays case lines: answers each, or compares the answer with the one that the line carries.
+#![tactic(auto)]
+
 mod answer;
 mod encoded;
 mod entry;

@@ -1,5 +1,5 @@
 -- The size of an address, and the registers that it is made of.
-use Rattle.std.proofs.Common.{◌≡◌, ℕ, ◌+◌, ◌-◌, ◌*◌, ◌/◌, ◌%◌, ◌^◌, ◌<◌, ◌≤◌, Bool, true, false, cond, not, ◌&&◌, ◌||◌, eqb, ltb, leb, ◌⊎◌, is_some, Some, None, Ok, Err, Option, Result, sym, refl, ap, ◌∙◌, inl, inr, arith}
+use Rattle.std.proofs.Common.{◌≡◌, ℕ, ◌+◌, ◌-◌, ◌<◌, ◌≤◌, Bool, true, false, cond, not, ◌&&◌, eqb, ◌⊎◌, is_some, Some, None, Ok, Option, refl, inl, inr, arith}
 use Rattle.std.proofs.lemmas.Bool.Decides.{nat_tests}
 use Rattle.machine.specs.declared.code_size.CodeSize.{CodeSize}
 use Rattle.machine.specs.declared.code_size.CodeSize.TheVariants.{Unknown, Code16, Code32, Code64}
@@ -9,12 +9,11 @@ use Rattle.gather.specs.Address.{is64, mode_bytes}
 use Rattle.instruction.specs.declared.made.Instruction.{Instruction}
 use Rattle.instruction.specs.Getters.{displ_bytes}
 use Rattle.record.specs.declared.op.RegisterRange.{RegisterRange}
-use Rattle.gather.specs.declared.refusal.Refusal.{Refusal}
-use Rattle.gather.specs.Address.{code_bytes, register_bytes, joined_bytes, address_chosen, address_bytes, in_range, range_last}
-use Rattle.gather.specs.Memory.{address_bank, is_rip, index_bank, base_allowed, index_allowed, checked_of, mem_checked, bank_number}
+use Rattle.gather.specs.Address.{code_bytes, register_bytes, joined_bytes, address_chosen, address_bytes}
+use Rattle.gather.specs.Memory.{address_bank, is_rip, index_bank, base_allowed, index_allowed, checked_of, bank_number}
 use Rattle.fields.specs.Prefixes.{address_width}
 use Rattle.reader.specs.Addresses.{first_general}
-use Rattle.roundtrip.proofs.Basics.{no_err, past, same_ok, not_false}
+use Rattle.roundtrip.proofs.Basics.{past, not_false}
 use Rattle.roundtrip.proofs.Shapes.{Below, named, first_index}
 
 pub checked_ok : (wide base index two : Bool) → checked_of wide base index two ≡ Ok tt → (wide ≡ false) × (base ≡ true) × (index ≡ true)

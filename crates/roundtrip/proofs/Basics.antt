@@ -1,5 +1,5 @@
 -- Answers taken apart.
-use Rattle.std.proofs.Common.{◌≡◌, ℕ, ◌+◌, ◌<◌, Bool, true, false, cond, not, ◌&&◌, ◌||◌, Ok, Err, Result, sym, refl, ap, ◌∙◌, arith}
+use Rattle.std.proofs.Common.{◌≡◌, ℕ, Bool, true, false, cond, not, ◌&&◌, ◌||◌, Ok, Err, Result, sym, refl, ◌∙◌, arith}
 use Rattle.gather.specs.Parts as Parts
 use Rattle.gather.specs.declared.refusal.Refusal.{Refusal}
 

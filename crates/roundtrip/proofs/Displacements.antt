@@ -1,21 +1,17 @@
 -- Displacements: what goes out in the size asked, and what is read of it.
-use Rattle.std.proofs.Common.{◌≡◌, ℕ, ◌+◌, ◌-◌, ◌*◌, ◌/◌, ◌%◌, ◌^◌, ◌<◌, ◌≤◌, Bool, true, false, cond, not, ◌&&◌, ◌||◌, eqb, ltb, leb, ◌⊎◌, ℤ, pos, negsuc, ◌≤ℤ◌, Some, None, Ok, Err, Option, Result, sym, refl, ap, ◌∙◌, inl, inr, arith, w8, w16, w32, w64, SFits, to_z, of_z}
+use Rattle.std.proofs.Common.{◌≡◌, ℕ, ◌+◌, ◌%◌, ◌<◌, ◌≤◌, Bool, true, false, cond, ◌&&◌, eqb, ltb, ◌⊎◌, ℤ, pos, negsuc, Some, None, Ok, Option, Result, sym, refl, ap, ◌∙◌, inl, inr, arith, w8, w32, w64, SFits, to_z, of_z}
 use Rattle.std.proofs.lemmas.Bool.Decides.{nat_tests}
-use Rattle.std.proofs.lemmas.Int.{ints, to_z-of_z, of_z-to_z}
-use mir.Syntax.{Width}
+use Rattle.std.proofs.lemmas.Int.{ints, to_z-of_z}
 use Rattle.policy.specs.Lowest.{lowest, SignedByte}
 use Rattle.policy.proofs.LowestIs.{lowest_some}
 use Rattle.gather.specs.declared.memory.Out.{Out}
 use Rattle.gather.specs.declared.memory.Out.TheVariants.{Nothing, Byte, Full, Wrong}
-use Rattle.gather.specs.declared.parts.Displ.{Displ}
-use Rattle.gather.specs.declared.parts.Displ.TheVariants as D
 use Rattle.gather.specs.declared.refusal.Refusal.{Refusal}
 use Rattle.gather.specs.Parts.{refusing, blank}
 use Rattle.fault.specs.declared.operand.OperandFault.TheVariants as F
 use Rattle.gather.specs.Memory.{displ_checked, sized_out, displ_out, out_displ, is_wrong}
-use Rattle.encoder.specs.Fields.{distance, rip_distance, reaches}
 use Rattle.reader.specs.Addresses.{modulo, displ_number}
-use Rattle.roundtrip.proofs.Basics.{no_err, past, same_ok}
+use Rattle.roundtrip.proofs.Basics.{no_err, same_ok}
 use Rattle.roundtrip.proofs.Shapes.{Goes, displ_length}
 
 -- a displacement that an address takes

@@ -1,44 +1,40 @@
 -- What an operand leaves alone, and that numbers stay in range.
-use Rattle.std.proofs.Common.{◌≡◌, ℕ, ◌+◌, ◌-◌, ◌*◌, ◌/◌, ◌%◌, ◌^◌, ◌<◌, ◌≤◌, Bool, true, false, cond, not, ◌&&◌, ◌||◌, eqb, ltb, leb, ◌⊎◌, ℤ, is_some, Some, None, Ok, Err, Option, Result, sym, refl, ap, ◌∙◌, inl, inr, arith}
+use Rattle.std.proofs.Common.{◌≡◌, ℕ, ◌/◌, ◌%◌, ◌<◌, Bool, true, false, cond, ◌||◌, eqb, leb, ℤ, is_some, Some, None, Ok, Err, Option, Result, sym, refl, ap, ◌∙◌, arith}
 use Rattle.std.proofs.lemmas.Bool.Decides.{nat_tests}
 use Rattle.fault.specs.declared.operand.OperandFault.{OperandFault}
 use Rattle.fault.specs.declared.operand.OperandFault.TheVariants as F
 use Rattle.machine.specs.declared.mode.Mode.{Mode}
 use Rattle.machine.specs.declared.op_kind.OpKind.{OpKind}
-use Rattle.machine.specs.declared.place.Place.{Place}
-use Rattle.gather.specs.Address.{is64, mode_bytes}
+use Rattle.gather.specs.Address.{is64}
 use Rattle.machine.specs.OpKinds.{kind_number}
 use Rattle.instruction.specs.declared.made.Instruction.{Instruction}
-use Rattle.instruction.specs.Getters.{op_kind_at, op_register_at, imm64, low8}
-use Rattle.record.specs.declared.class.Class.TheVariants.{RmSlot, Vector, RegSlot, Vvvv}
+use Rattle.instruction.specs.Getters.{imm64, low8}
+use Rattle.record.specs.declared.class.Class.TheVariants.{RmSlot, RegSlot, Vvvv}
 use Rattle.record.specs.declared.head.Head.{Head}
 use Rattle.record.specs.declared.imm.ImmShape.{ImmShape}
 use Rattle.record.specs.declared.imm.ImmShape.TheVariants as Shape
 use Rattle.record.specs.declared.op.Op.{Op}
-use Rattle.record.specs.declared.op.Op.TheVariants.{ModRmRm, ModRmRmMemOnly, Vsib, O, ModRmReg, RegEmbed8, Reg, Hx, Ib, Id, Iq, J}
+use Rattle.record.specs.declared.op.Op.TheVariants.{ModRmRm, O, ModRmReg, RegEmbed8, Reg, Hx}
 use Rattle.record.specs.declared.op.RegisterRange.{RegisterRange}
 use Rattle.record.specs.declared.sound.Record.{Record}
 use Rattle.record.specs.Classes.{op_number, belongs}
 use Rattle.record.specs.Facts.{BankFacts}
 use Rattle.record.specs.Immediates.{imm_after, imm_first, imm_byte}
-use Rattle.record.specs.Rules.{op_range_holds, op_vector_holds, op_imm_holds, branch_holds, range_vector16, range_vector32, is_evex}
-use Rattle.record.proofs.BankFacts.{banks_known}
+use Rattle.record.specs.Rules.{range_vector16, range_vector32}
 use Rattle.gather.specs.declared.absolute.Offset.{Offset}
-use Rattle.gather.specs.declared.absolute.OffsetRefusal.{OffsetRefusal}
-use Rattle.gather.specs.declared.parts.HeadFlags.{HeadFlags}
 use Rattle.gather.specs.declared.parts.Imm.{Imm}
 use Rattle.gather.specs.declared.parts.Imm.TheVariants as Imms
 use Rattle.gather.specs.declared.parts.Parts.{Parts}
 use Rattle.gather.specs.declared.parts.RmPart.{RmPart}
 use Rattle.gather.specs.declared.register.RegPart.{RegPart}
 use Rattle.gather.specs.Address.{address_bytes, in_range}
-use Rattle.gather.specs.Immediates.{byte_operand, expecting, branch_of, same_kind}
+use Rattle.gather.specs.Immediates.{byte_operand, expecting, same_kind}
 use Rattle.gather.specs.declared.parts.Displ.TheVariants.{Absent}
 use Rattle.gather.specs.Memory.{mem}
 use Rattle.gather.specs.Memory16.{mem16}
 use Rattle.gather.specs.Parts.{refusing, blank}
-use Rattle.gather.specs.Registers.{reg_part, rm_register}
-use Rattle.gather.specs.Steps.{Spread, mem_sized, broadcasts, with_rm, with_flags, with_imm, asking, addressing, sizing, put_rm_register, put_reg, put_embedded, put_vvvv, put_offset, put_branch, embedded_rm, offset_rm}
+use Rattle.gather.specs.Registers.{reg_part}
+use Rattle.gather.specs.Steps.{Spread, mem_sized, broadcasts, with_rm, with_flags, with_imm, addressing, put_rm_register, put_reg, put_embedded, put_vvvv, put_offset}
 use Rattle.encoder.specs.Fields.{imm_length}
 use Rattle.roundtrip.specs.Law.{Words}
 use Rattle.roundtrip.proofs.Basics.{no_err, past, same_ok, clash}
@@ -48,7 +44,7 @@ use Rattle.roundtrip.proofs.MemorySays.{Says}
 use Rattle.roundtrip.proofs.Memory32.{mem_says}
 use Rattle.roundtrip.proofs.Memory16.{mem16_says}
 use Rattle.roundtrip.proofs.Registers.{Number, number_fits}
-use Rattle.roundtrip.proofs.Wrote.{Wrote, MemoryWrote, RegisterWrote, OffsetWrote, ByteWrote}
+use Rattle.roundtrip.proofs.Wrote.{MemoryWrote}
 
 -- every number of the parts is in its range; outside mode 64 no bit of a head is asked for
 pub record Fit (h : Head) (m : Mode) (p : Parts) : Type 0 where

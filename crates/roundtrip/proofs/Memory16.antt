@@ -1,5 +1,5 @@
 -- Memory operands with 16-bit addresses.
-use Rattle.std.proofs.Common.{◌≡◌, ℕ, ◌+◌, ◌-◌, ◌*◌, ◌/◌, ◌%◌, ◌^◌, ◌<◌, ◌≤◌, Bool, true, false, cond, not, ◌&&◌, ◌||◌, eqb, ltb, leb, ◌⊎◌, ℤ, is_some, Some, None, Ok, Err, Option, Result, sym, refl, ap, ◌∙◌, inl, inr, arith, w8, w16, w64, to_z, of_z}
+use Rattle.std.proofs.Common.{◌≡◌, ℕ, ◌+◌, ◌%◌, ◌<◌, Bool, true, false, cond, not, ◌&&◌, ◌||◌, eqb, ltb, ℤ, is_some, Some, None, Ok, Option, Result, sym, refl, ap, ◌∙◌, arith, w8, w16, w64, to_z, of_z}
 use Rattle.std.proofs.lemmas.Bool.Decides.{nat_tests}
 use Rattle.fault.specs.declared.operand.OperandFault.TheVariants as F
 use Rattle.machine.specs.declared.mode.Mode.{Mode}
@@ -8,7 +8,7 @@ use Rattle.gather.specs.Address.{is64, mode_bytes}
 use Rattle.machine.specs.Scales.{scale_number}
 use Rattle.instruction.specs.declared.made.Instruction.{Instruction}
 use Rattle.instruction.specs.Getters.{displ_bytes}
-use Rattle.policy.specs.Lowest.{lowest, SignedByte}
+use Rattle.policy.specs.Lowest.{lowest}
 use Rattle.policy.proofs.LowestIs.{lowest_some}
 use Rattle.record.specs.declared.op.RegisterRange.{RegisterRange}
 use Rattle.gather.specs.declared.parts.Displ.{Displ}
@@ -17,15 +17,13 @@ use Rattle.gather.specs.declared.parts.RmPart.{RmPart}
 use Rattle.gather.specs.declared.refusal.Refusal.{Refusal}
 use Rattle.gather.specs.Memory16.{rm16, offset16, far16, one16_of, one16, sized16, based16, mem16}
 use Rattle.gather.specs.Parts.{plain_part, refusing, blank}
-use Rattle.fields.specs.declared.lead.Lead.{Lead}
 use Rattle.fields.specs.Prefixes.{address_width}
-use Rattle.fields.specs.ModRms.{displ_size, has_sib}
+use Rattle.fields.specs.ModRms.{displ_size}
 use Rattle.reader.specs.Addresses.{modulo, base16, index16, displ_number, counts_on}
-use Rattle.roundtrip.specs.Meant.{scale_meant}
-use Rattle.roundtrip.proofs.Basics.{no_err, past, same_ok, not_false, clash, or_left, or_right}
-use Rattle.roundtrip.proofs.Shapes.{displ_length, PartFits, Holds, mod_rm_read}
+use Rattle.roundtrip.proofs.Basics.{no_err, past, same_ok, clash}
+use Rattle.roundtrip.proofs.Shapes.{displ_length, mod_rm_read}
 use Rattle.roundtrip.proofs.Displacements.{byte_back}
-use Rattle.roundtrip.proofs.MemorySays.{Says, displ_value, displ_in}
+use Rattle.roundtrip.proofs.MemorySays.{Says, displ_value}
 
 -- what a ModRM of 16 bits says, by its mod and rm
 pub record Row (mode rm base index : ℕ) : Type 0 where

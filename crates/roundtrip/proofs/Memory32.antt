@@ -1,11 +1,10 @@
 -- Memory operands with 32-bit and 64-bit addresses.
-use Rattle.std.proofs.Common.{◌≡◌, ℕ, ◌+◌, ◌-◌, ◌*◌, ◌/◌, ◌%◌, ◌^◌, ◌<◌, ◌≤◌, Bool, true, false, cond, not, ◌&&◌, ◌||◌, eqb, ltb, leb, ◌⊎◌, ℤ, is_some, Some, None, Ok, Err, Option, Result, sym, refl, ap, ◌∙◌, inl, inr, arith, w32, w64, to_z, of_z}
+use Rattle.std.proofs.Common.{◌≡◌, ℕ, ◌+◌, ◌-◌, ◌%◌, ◌<◌, ◌≤◌, Bool, true, false, cond, not, ◌&&◌, ◌||◌, eqb, ltb, ◌⊎◌, ℤ, is_some, Some, None, Ok, Option, Result, sym, refl, ap, ◌∙◌, inl, inr, arith, w32, w64, to_z, of_z}
 use Rattle.std.proofs.lemmas.Bool.Decides.{nat_tests}
 use Rattle.machine.specs.declared.mode.Mode.{Mode}
-use Rattle.machine.specs.declared.mode.Mode.TheVariants.{Bits16, Bits32, Bits64}
 use Rattle.machine.specs.declared.scale.Scale.{Scale}
 use Rattle.machine.specs.declared.scale.Scale.TheVariants as Scales
-use Rattle.gather.specs.Address.{is64, mode_bytes}
+use Rattle.gather.specs.Address.{is64}
 use Rattle.machine.specs.Scales.{scale_number}
 use Rattle.instruction.specs.declared.made.Instruction.{Instruction}
 use Rattle.instruction.specs.Getters.{displ_bytes}
@@ -14,12 +13,12 @@ use Rattle.gather.specs.declared.memory.Out.{Out}
 use Rattle.gather.specs.declared.memory.Out.TheVariants.{Nothing, Byte, Full, Wrong}
 use Rattle.gather.specs.declared.parts.Displ.TheVariants as D
 use Rattle.gather.specs.declared.parts.RmPart.{RmPart}
-use Rattle.gather.specs.Address.{address_bytes, in_range, register_bytes, joined_bytes, address_chosen}
-use Rattle.gather.specs.Memory.{is_rip, mem, mem_checked, rip_mem, rip_part, ranged_mem, is_bare, offset_mem, based_mem, address_of, displ_out, out_displ, address_part, address_answer, is_wrong, is_stack_pointer, bank_number, address_bank, index_bank, base_allowed, index_allowed, displ_checked, wants_sib, out_mode, bit3, bit4, low3_or}
+use Rattle.gather.specs.Address.{address_bytes, in_range, register_bytes, joined_bytes}
+use Rattle.gather.specs.Memory.{is_rip, mem, mem_checked, rip_mem, ranged_mem, is_bare, offset_mem, based_mem, address_of, displ_out, out_displ, address_part, is_wrong, is_stack_pointer, bank_number, address_bank, index_bank, base_allowed, index_allowed, displ_checked, wants_sib, out_mode, bit3, bit4, low3_or}
 use Rattle.gather.specs.declared.refusal.Refusal.{Refusal}
-use Rattle.gather.specs.Parts.{plain_part, refusing, blank}
+use Rattle.gather.specs.Parts.{plain_part, refusing}
 use Rattle.fault.specs.declared.operand.OperandFault.TheVariants as F
-use Rattle.encoder.specs.Fields.{distance, rip_distance, reaches, displ_far}
+use Rattle.encoder.specs.Fields.{rip_distance, reaches, displ_far}
 use Rattle.roundtrip.specs.Law.{Words}
 use Rattle.fields.specs.declared.lead.Lead.{Lead}
 use Rattle.reader.specs.Addresses.{modulo, displ_number, index_of, scale_of, index16, counts_on, first_general}

@@ -1,5 +1,5 @@
 -- What is asked of the parts of a memory operand: they fit, and they say the address that was handed in.
-use Rattle.std.proofs.Common.{◌≡◌, ℕ, ◌+◌, ◌-◌, ◌*◌, ◌/◌, ◌%◌, ◌^◌, ◌<◌, ◌≤◌, Bool, true, false, cond, not, ◌&&◌, ◌||◌, eqb, ltb, leb, ℤ, is_some, Some, None, Option, sym, refl, ap, ◌∙◌, arith}
+use Rattle.std.proofs.Common.{◌≡◌, ℕ, ◌+◌, ◌/◌, ◌%◌, ◌<◌, Bool, true, false, cond, not, ◌||◌, eqb, ℤ, is_some, Some, Option, refl, ap, ◌∙◌, arith}
 use Rattle.std.proofs.lemmas.Bool.Decides.{nat_tests}
 use Rattle.machine.specs.declared.mode.Mode.{Mode}
 use Rattle.gather.specs.Address.{is64, mode_bytes}
@@ -16,7 +16,6 @@ use Rattle.fields.specs.declared.lead.Lead.{Lead}
 use Rattle.fields.specs.declared.mod_rm.ModRm.{ModRm}
 use Rattle.fields.specs.ModRms.{displ_size, has_sib}
 use Rattle.fields.specs.Prefixes.{address_width}
-use Rattle.reader.specs.declared.operand.Memory.{Memory}
 use Rattle.reader.specs.Addresses.{modulo, base16, index16, base_of, index_of, scale_of, displ_number, counts_on, address_made, address16, address32, memory_of}
 use Rattle.roundtrip.specs.Meant.{scale_meant, memory_meant}
 use Rattle.roundtrip.proofs.Shapes.{mod_rm_read, Holds, displ_length, PartFits}

@@ -1,16 +1,15 @@
 -- Registers by their numbers in the bytes.
-use Rattle.std.proofs.Common.{◌≡◌, ℕ, ◌+◌, ◌-◌, ◌*◌, ◌/◌, ◌%◌, ◌^◌, ◌<◌, ◌≤◌, Bool, true, false, cond, not, ◌&&◌, ◌||◌, eqb, ltb, leb, ◌⊎◌, sym, refl, ap, ◌∙◌, inl, inr, arith}
+use Rattle.std.proofs.Common.{◌≡◌, ℕ, ◌+◌, ◌-◌, ◌<◌, ◌≤◌, Bool, true, false, cond, ◌&&◌, ◌||◌, eqb, ltb, refl, arith}
 use Rattle.std.proofs.lemmas.Bool.Decides.{nat_tests}
 use Rattle.machine.specs.declared.mode.Mode.{Mode}
-use Rattle.machine.specs.Bytes.{byte_register}
 use Rattle.gather.specs.Address.{is64}
 use Rattle.record.specs.declared.head.Head.{Head}
 use Rattle.record.specs.declared.op.RegisterRange.{RegisterRange}
 use Rattle.record.specs.Facts.{BankFacts}
 use Rattle.record.specs.Rules.{is_evex, is_legacy}
-use Rattle.gather.specs.Address.{in_range, range_last}
+use Rattle.gather.specs.Address.{in_range}
 use Rattle.gather.specs.Registers.{reg_part}
-use Rattle.fields.specs.Registers.{register_there, bank_size}
+use Rattle.fields.specs.Registers.{register_there}
 use Rattle.reader.specs.Operands.{register_of}
 
 -- a number that a bank has

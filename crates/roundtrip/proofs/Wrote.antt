@@ -1,5 +1,5 @@
 -- What an operand that is not refused leaves.
-use Rattle.std.proofs.Common.{◌≡◌, ℕ, ◌+◌, ◌-◌, ◌*◌, ◌/◌, ◌%◌, ◌^◌, ◌<◌, ◌≤◌, Bool, true, false, cond, not, ◌&&◌, ◌||◌, eqb, ◌⊎◌, is_some, Some, None, Ok, Err, Option, Result, sym, refl, ap, ◌∙◌, inl, inr, arith}
+use Rattle.std.proofs.Common.{◌≡◌, ℕ, Bool, true, false, cond, not, eqb, ◌⊎◌, is_some, Some, None, Ok, Err, Option, Result, refl, ap, inl, inr, arith}
 use Rattle.std.proofs.lemmas.Bool.Decides.{nat_tests}
 use Rattle.fault.specs.declared.operand.OperandFault.{OperandFault}
 use Rattle.fault.specs.declared.operand.OperandFault.TheVariants as F
@@ -23,9 +23,9 @@ use Rattle.gather.specs.declared.refusal.Refusal.{Refusal}
 use Rattle.gather.specs.declared.register.RegPart.{RegPart}
 use Rattle.gather.specs.Absolute.{absolute}
 use Rattle.gather.specs.Address.{address_bytes, mode_bytes, in_range}
-use Rattle.gather.specs.Immediates.{byte_operand, expecting, wide_operand, branch_operand, branch_of, same_kind}
+use Rattle.gather.specs.Immediates.{byte_operand, branch_of, same_kind}
 use Rattle.gather.specs.Registers.{is_register, is_memory, ranged_register, register_operand, reg_part}
-use Rattle.gather.specs.Steps.{Spread, Step, op_step, rm_memory, register_step, memory_step, offset_step, imm_step, branch_step, fixed_step, fixed_told, mem_only, rm_step, faulty, done, with_rm, with_flags, with_imm, addressing, put_rm_register, put_reg, put_embedded, put_vvvv, put_offset, put_branch, mem_sized, broadcasts}
+use Rattle.gather.specs.Steps.{Spread, op_step, rm_memory, register_step, memory_step, offset_step, imm_step, branch_step, fixed_step, fixed_told, mem_only, faulty, with_rm, with_flags, with_imm, addressing, put_rm_register, put_reg, put_embedded, put_vvvv, put_offset, put_branch, mem_sized, broadcasts}
 use Rattle.roundtrip.proofs.Basics.{clash}
 
 -- a refusal is there

@@ -1,5 +1,5 @@
 -- What counts of an instruction handed in, place by place.
-use Rattle.std.specs.Prelude.{ℕ, Bool, true, false, cond, not, ◌&&◌, ◌||◌, Some, None, Option, ◌==◌}
+use Rattle.std.specs.Prelude.{ℕ, Bool, cond, ◌&&◌, ◌||◌, Some, None, Option, ◌==◌}
 use Rattle.machine.specs.declared.mode.Mode.{Mode}
 use Rattle.machine.specs.declared.place.Place.{Place}
 use Rattle.machine.specs.declared.place.Place.TheVariants.{Op0, Op1, Op2, Op3, Op4}
@@ -12,7 +12,6 @@ use Rattle.record.specs.declared.op.Op.{Op}
 use Rattle.record.specs.declared.op.Op.TheVariants.{ModRmRm, ModRmRmMemOnly, Vsib, O, ModRmReg, RegEmbed8, Reg, Hx, Ib, Id, Iq, J}
 use Rattle.record.specs.declared.op.Operands.{Operands}
 use Rattle.record.specs.declared.sound.Record.{Record}
-use Rattle.record.specs.Facts.{op_at}
 use Rattle.record.specs.Rules.{is_evex}
 use Rattle.gather.specs.Address.{address_bytes}
 use Rattle.gather.specs.Registers.{is_register}

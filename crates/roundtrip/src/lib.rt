@@ -1,1 +1,3 @@
+#![tactic(auto)]
+
 // What the encoder accepts, the reader reads back.

@@ -1,4 +1,4 @@
-use Rattle.std.specs.Prelude.{ℕ, ◌+◌, Bool, cond, not, ◌&&◌, List, take, drop, is_some, Some, None, Ok, Err, codes, Option, Result, ◌==◌, nat_lt}
+use Rattle.std.specs.Prelude.{ℕ, ◌+◌, cond, not, ◌&&◌, List, take, drop, is_some, Some, None, Ok, Err, codes, Option, Result, ◌==◌, nat_lt}
 use Rattle.record.specs.declared.head.Head as heads
 use Rattle.record.specs.declared.head.Head.TheVariants.{Legacy, Vex, Evex}
 use Rattle.record.specs.declared.op.Op.{Op}

@@ -1,4 +1,4 @@
-use Rattle.std.specs.Prelude.{ℕ, Bool, true, false, cond, List, Some, None, codes, Option, ◌==◌, bit_or}
+use Rattle.std.specs.Prelude.{ℕ, true, false, cond, List, Some, None, codes, Option, ◌==◌, bit_or}
 use Rattle.machine.specs.declared.code_size.CodeSize.{CodeSize}
 use Rattle.machine.specs.declared.code_size.CodeSize.TheVariants.{Code16, Code32, Code64}
 use Rattle.text.specs.Bytes.{same}

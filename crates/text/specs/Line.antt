@@ -1,4 +1,4 @@
-use Rattle.std.specs.Prelude.{ℕ, zero, suc, ◌+◌, ◌-◌, ◌*◌, Bool, false, cond, not, ◌&&◌, ◌||◌, List, length, replicate, Some, None, Ok, Err, Option, Result, ◌==◌, nat_lt, slice_set}
+use Rattle.std.specs.Prelude.{ℕ, zero, suc, ◌+◌, Bool, false, cond, ◌&&◌, ◌||◌, List, length, replicate, Some, None, Ok, Err, Option, Result, ◌==◌, nat_lt, slice_set}
 use Rattle.text.specs.Digits.{number_at}
 use Rattle.text.specs.declared.case_fault.CaseFault.{CaseFault}
 use Rattle.text.specs.declared.case_fault.CaseFault.TheVariants.{NotNumber, TooFew, TooMany, NotHeld}

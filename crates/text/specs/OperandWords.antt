@@ -1,4 +1,4 @@
-use Rattle.std.specs.Prelude.{ℕ, ◌+◌, Bool, true, false, cond, not, ◌&&◌, ◌||◌, List, [], ◌∷◌, length, Some, None, codes, Option, ◌==◌, nat_le, nat_lt, slice_index}
+use Rattle.std.specs.Prelude.{ℕ, ◌+◌, true, false, cond, not, ◌&&◌, ◌||◌, List, [], ◌∷◌, length, Some, None, codes, Option, ◌==◌, nat_le, nat_lt, slice_index}
 use Rattle.machine.specs.declared.op_kind.OpKind.{OpKind}
 use Rattle.machine.specs.declared.op_kind.OpKind.TheVariants.{NearBranch16, NearBranch32, NearBranch64, Immediate8, Immediate8Second, Immediate16, Immediate32, Immediate64, Immediate8to16, Immediate8to32, Immediate8to64, Immediate32to64}
 use Rattle.machine.specs.OpKinds.{kind_named}

@@ -1,4 +1,4 @@
-use Rattle.std.specs.Prelude.{ℕ, zero, suc, ◌+◌, ◌-◌, false, cond, List, length, negsuc, None, Ok, Err, Result, ◌==◌, nat_le, slice_index, slice_range}
+use Rattle.std.specs.Prelude.{ℕ, zero, suc, ◌+◌, false, cond, List, length, negsuc, None, Ok, Err, Result, ◌==◌, nat_le, slice_index, slice_range}
 use Rattle.machine.specs.declared.code_size.CodeSize.TheVariants.{Unknown}
 use Rattle.record.specs.declared.head.Head.TheVariants.{Legacy}
 use Rattle.record.specs.declared.raw.RawRecord.{RawRecord}

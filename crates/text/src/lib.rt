@@ -1,4 +1,6 @@
 // Text to values: case lines, which machines write, and catalogue rows, which people write.
+#![tactic(auto)]
+
 mod bytes;
 mod case;
 mod case_fault;

@@ -1,5 +1,5 @@
 -- The examples, by computation.
-use Rattle.std.proofs.Common.{◌≡◌, refl}
+use Rattle.std.proofs.Common.{refl}
 use lib.Count.{ones}
 use Rattle.catalogue.specs.Built.{built_rows}
 use Rattle.catalogue.specs.Meaning.{row_of}

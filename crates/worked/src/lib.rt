@@ -1,4 +1,6 @@
 // Worked examples of the built-in table, proved by computation.
+#![tactic(auto)]
+
 ghost use Rattle.std.specs.Prelude.{◌≡◌};
 ghost use Rattle.worked.specs.Examples.{ExamplesComeOut};
 

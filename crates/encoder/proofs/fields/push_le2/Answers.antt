@@ -1,4 +1,4 @@
-use Rattle.std.proofs.Common.{◌≡◌, ℕ, ◌/◌, ◌%◌, List, [], ◌∷◌, ◌++◌, ap, ◌∙◌, append_assoc, rules}
+use Rattle.std.proofs.Common.{◌/◌, ◌%◌, [], ◌∷◌, ◌++◌, ap, ◌∙◌, append_assoc, rules}
 use Rattle.encoder.specs.Lines.{used}
 use Rattle.encoder.proofs.fields.push_le2.Goals as goal
 

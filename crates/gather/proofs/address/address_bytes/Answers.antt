@@ -1,4 +1,4 @@
-use Rattle.std.proofs.Common.{◌≡◌, sym, ap, ◌∙◌, rules}
+use Rattle.std.proofs.Common.{◌∙◌}
 use Rattle.gather.specs.Address.{address_bytes}
 use Rattle.gather.proofs.address.address_bytes.Goals as goal
 

@@ -1,4 +1,4 @@
-use Rattle.std.proofs.Common.{◌≡◌, true, false, eqb, sym, eq-eqb, ne_eqb}
+use Rattle.std.proofs.Common.{◌≡◌, true, false, eqb, eq-eqb, ne_eqb}
 use Rattle.gather.proofs.memory.sized_out.Goals as goal
 
 pub returns-then-size-bytes : goal.returns-then-size-bytes

@@ -1,4 +1,4 @@
-use Rattle.std.proofs.Common.{◌≡◌, length, sym, refl, ◌∙◌, arith}
+use Rattle.std.proofs.Common.{length, sym, refl, ◌∙◌, arith}
 use Rattle.listing.proofs.Runs.{goes_on, stops, breaks, runs_out}
 use Rattle.listing.proofs.digits.digits.Goals as goal
 

@@ -1,4 +1,4 @@
-use Rattle.std.proofs.Common.{◌≡◌, ◌<◌, ◌≤◌, length, sym, ◌∙◌, arith}
+use Rattle.std.proofs.Common.{◌<◌, ◌≤◌, length, sym, ◌∙◌, arith}
 use Rattle.text.proofs.Scanning.{other_length, same_on, same_off, same_end}
 use Rattle.text.proofs.bytes.is.Goals as goal
 

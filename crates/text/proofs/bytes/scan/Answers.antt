@@ -1,4 +1,4 @@
-use Rattle.std.proofs.Common.{◌≡◌, length, sym, refl, ◌∙◌, arith}
+use Rattle.std.proofs.Common.{length, sym, refl, ◌∙◌, arith}
 use Rattle.text.proofs.Scanning.{scans_on, rests_here, scan_ends}
 use Rattle.text.proofs.bytes.scan.Goals as goal
 

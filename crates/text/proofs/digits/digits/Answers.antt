@@ -1,4 +1,4 @@
-use Rattle.std.proofs.Common.{◌≡◌, length, sym, refl, ◌∙◌, arith}
+use Rattle.std.proofs.Common.{length, sym, refl, ◌∙◌, arith}
 use Rattle.text.proofs.Runs.{goes_on, stops, breaks, runs_out}
 use Rattle.text.proofs.digits.digits.Goals as goal
 

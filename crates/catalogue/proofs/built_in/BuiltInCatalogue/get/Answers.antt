@@ -1,4 +1,4 @@
-use Rattle.std.proofs.Common.{◌≡◌, ◌≤◌, length, is_some, sym, ap, ◌∙◌, arith}
+use Rattle.std.proofs.Common.{◌≤◌, length, is_some, sym, ap, ◌∙◌, arith}
 use Rattle.record.specs.Rules.{broken}
 use Rattle.catalogue.specs.Built.{built_rows}
 use Rattle.catalogue.proofs.Rowed.{row_past, built_at, built_row}

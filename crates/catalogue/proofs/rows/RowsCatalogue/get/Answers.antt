@@ -1,4 +1,4 @@
-use Rattle.std.proofs.Common.{◌≡◌, ◌<◌, ◌≤◌, length, get_or, sym, ap, ◌∙◌, arith, rules}
+use Rattle.std.proofs.Common.{sym, ap, ◌∙◌}
 use Rattle.record.specs.Making.{record_of, sound_or_none}
 use Rattle.catalogue.proofs.Rowed.{row_at, row_past}
 use Rattle.catalogue.proofs.rows.RowsCatalogue.get.Goals as goal

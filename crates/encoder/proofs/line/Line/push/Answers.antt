@@ -1,4 +1,4 @@
-use Rattle.std.proofs.Common.{◌≡◌, ◌<◌, length, ◌∙◌, arith, length-set, rules}
+use Rattle.std.proofs.Common.{◌<◌, length, ◌∙◌, arith, length-set, rules}
 use Rattle.std.proofs.lemmas.List.{take_more_set}
 use Rattle.encoder.specs.Lines.{used}
 use Rattle.encoder.proofs.Tail.{tail_push}

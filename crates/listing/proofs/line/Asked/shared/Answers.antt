@@ -1,4 +1,4 @@
-use Rattle.std.proofs.Common.{◌≡◌, ap, ◌∙◌}
+use Rattle.std.proofs.Common.{ap, ◌∙◌}
 use Rattle.listing.specs.Making.{full_displ}
 use Rattle.listing.proofs.line.Asked.shared.Goals as goal
 

@@ -1,4 +1,4 @@
-use Rattle.std.proofs.Common.{◌≡◌, ap, ◌∙◌}
+use Rattle.std.proofs.Common.{ap, ◌∙◌}
 use Rattle.record.specs.Rules.{scale_known}
 use Rattle.policy.specs.Scales.{scale_sound}
 use Rattle.policy.proofs.scale.Scale.of.Goals as goal
