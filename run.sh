@@ -4,5 +4,5 @@ set -euo pipefail
 cd "$(dirname "$0")"
 catalogue=${1:-crates/page/stdin}
 mkdir -p target
-rt check page > target/run.log 2>&1 || { tail -n 20 target/run.log; exit 1; }
-target/bin/page < "$catalogue"
+(cd crates/page && rt run < /dev/null) > target/run.log 2>&1 || { tail -n 20 target/run.log; exit 1; }
+crates/page/out/page < "$catalogue"

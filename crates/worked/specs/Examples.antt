@@ -1,6 +1,6 @@
 -- Worked examples of the built-in table: what is handed in, and the bytes and the answer that come of it.
 use Rattle.std.specs.Prelude.{◌≡◌, ℕ, false, List, [], ◌∷◌, Some, None, Ok, Err, Result}
-use Rattle.std.specs.List.{AllByRecursion as All}
+use Rattle.std.specs.List.{AllByRecursion}
 use Rattle.fault.specs.declared.encode.EncodeFault.{EncodeFault}
 use Rattle.fault.specs.declared.encode.EncodeFault.TheVariants.{Operand, Encoding}
 use Rattle.fault.specs.declared.encoding.EncodingFault.TheVariants.{HighByteWithRex, BranchDistance, Mode}
@@ -79,4 +79,4 @@ outcome e =
 
 -- every example comes out as stated
 abbrev pub ExamplesComeOut : Type 0
-ExamplesComeOut = All (λ (e : Example). ((outcome e).bytes ≡ e.bytes) × ((outcome e).answer ≡ e.answer)) examples
+ExamplesComeOut = AllByRecursion (λ (e : Example). ((outcome e).bytes ≡ e.bytes) × ((outcome e).answer ≡ e.answer)) examples
