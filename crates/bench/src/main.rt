@@ -109,7 +109,7 @@ fn times(rt: &HostRuntime, policy: &PortPolicy, items: &[Item]) -> io::Result<Ve
         sum = sum.wrapping_add(bytes);
         times.push(nanos)?;
     }
-    times.sort()?;
+    times.sort_unstable();
     println!(rt; "{sum} bytes in all")?;
     Ok(times)
 }
