@@ -82,10 +82,6 @@ def root_of(text, at):
     return path.group(1).split(".")[0] if path else ")"
 
 
-def clause_line(line):
-    return line.lstrip().startswith(("ghost", "pub ghost", "ensures", "requires", "old:", "new:", "let ", "(", "{", "λ", "elim", "×", "→")) or "ensures" in line or "ghost" in line
-
-
 def turned(path, text, kit, table):
     skip = goals(text)
     out, last = [], 0
@@ -97,7 +93,7 @@ def turned(path, text, kit, table):
             root = root_of(text, m.start(1))
             if root in MADE_ROOTS or (root is not None and name not in table["fields"] and name not in table["own"]):
                 continue
-            table["used"].setdefault(name, set()).add(path)
+            table["used"].add(name)
             out += [text[last : m.start(1)], new_name(name)]
             last = m.end(1)
     return "".join(out) + text[last:]
@@ -105,9 +101,9 @@ def turned(path, text, kit, table):
 
 def main():
     root = os.getcwd()
-    own = {c for c in os.listdir(os.path.join(root, "crates"))}
+    own = set(os.listdir(os.path.join(root, "crates")))
     kit = kit_names(root, own)
-    table = {"own": set(), "fields": set(), "used": {}}
+    table = {"own": set(), "fields": set(), "used": set()}
     every = set()
     for path in files(root):
         text = read(path)
@@ -123,16 +119,17 @@ def main():
     texts = {p: turned(p, read(p), kit, table) for p in files(root)}
     meets = {}
     for name in table["used"]:
-        meets.setdefault(new_name(name), set()).add(name)
-    for new, olds in sorted(meets.items()):
-        if len(olds) > 1:
-            print("fall together:", new, sorted(olds))
-        if new in every and "--list" in sys.argv:
-            print("is there already:", new, sorted(olds))
+        meets.setdefault(new_name(name), []).append(name)
+    together = {new: sorted(olds) for new, olds in meets.items() if len(olds) > 1}
+    for new, olds in sorted(together.items()):
+        print("fall together:", new, olds)
     if "--list" in sys.argv:
         for name in sorted(table["used"]):
-            print(name, new_name(name), "" if name in table["own"] else "(bound where it is used)")
+            new = new_name(name)
+            print(name, new, "(there already)" if new in every else "", "" if name in table["own"] else "(bound where it is used)")
         return 0
+    if together:
+        return 1
     for path, text in texts.items():
         if text != read(path):
             with open(path, "w", encoding="utf-8") as f:

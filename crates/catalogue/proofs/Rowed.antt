@@ -1,6 +1,6 @@
 -- Rows by place, and the built-in rows, each of which breaks no rule.
 use Rattle.std.proofs.Common.{◌≡◌, ℕ, zero, suc, ◌<◌, ◌≤◌, Bool, true, false, not, ◌&&◌, ltb, List, [], ◌∷◌, length, get_or, is_some, Some, None, Option, sym, refl, ap, ◌∙◌, arith}
-use lib.Count.{ones}
+use Rattle.std.specs.Int.Count.{ones}
 use Rattle.std.proofs.lemmas.Bool.Decides.{nat_tests}
 use Rattle.fault.specs.declared.rule.Rule.{Rule}
 use Rattle.record.specs.declared.raw.RawRecord.{RawRecord}

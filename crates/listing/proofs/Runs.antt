@@ -1,6 +1,6 @@
 -- How a run of digits goes on and ends.
 use Rattle.std.proofs.Common.{◌≡◌, ℕ, zero, suc, ◌+◌, ◌<◌, ◌≤◌, Bool, List, length, get_or, Some, None, refl, arith, le-leb}
-use borrow.Author.Tests.{lt-leb}
+use Rattle.std.proofs.lemmas.Bool.{lt-leb}
 use Rattle.listing.specs.declared.digits.Turn.TheVariants.{More, End, TooLarge}
 use Rattle.listing.specs.Digits.{step_of, digits_of}
 

@@ -1,8 +1,8 @@
 -- A register is known by its number alone.
 use Rattle.std.proofs.Common.{◌≡◌, ℕ, ◌<◌, ◌≤◌, Bool, true, false, leb, is_some, Some, None, Option, sym, refl, ap, ◌∙◌, arith, le-leb, MatchOption}
 use mathlib.Core.HLevel.{is_prop→PathP}
-use native.Mathlib.Bridge.{le_prop}
-use borrow.Author.Tests.{lt-leb}
+use Rattle.std.proofs.Math.Bridge.{le_prop}
+use Rattle.std.proofs.lemmas.Bool.{lt-leb}
 use Rattle.machine.specs.declared.register.Register.{Register}
 use Rattle.machine.specs.Registers.{register_told, register_of}
 

@@ -1,6 +1,6 @@
 -- Where only one number can stand for a displacement, the byte that a test of it finds is the lowest.
 use Rattle.std.proofs.Common.{◌≡◌, ℕ, ◌<◌, Bool, true, false, cond, ◌&&◌, ℤ, pos, negsuc, ◌≤ℤ◌, Some, None, sym, refl, ap, ◌∙◌, arith}
-use lib.Signed.{le_z, shr_z}
+use Rattle.std.specs.Int.Signed.{le_z, shr_z}
 use Rattle.std.proofs.lemmas.Int.{ints}
 use Rattle.std.proofs.lemmas.Bool.Decides.{nat_tests}
 use Rattle.policy.specs.Bytes.{byte_of, exact_byte}

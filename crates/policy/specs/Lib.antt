@@ -4,4 +4,3 @@ pub mod Meanings
 pub mod Scales
 pub mod OneBit
 pub mod Shifts
-pub mod Chosen

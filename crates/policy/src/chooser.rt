@@ -1,6 +1,7 @@
 ghost use Rattle.std.specs.Prelude.{◌≡◌, if◌then◌else◌};
 ghost use Rattle.record.specs.Rules.{is_evex};
-ghost use Rattle.policy.specs.Chosen.{chosen_within};
+ghost use Rattle.std.proofs.lemmas.Bool.{cond_both};
+ghost use Rattle.policy.specs.Lowest.{Displacement};
 
 use super::policy::Policy;
 use record::{Head, Record};
@@ -24,9 +25,11 @@ fn has_evex(record: &Record) -> bool
 }
 
 impl<E: Policy, P: Policy> Policy for Chooser<E, P> {
-    ghost spread = { λ p x broadcast. (if is_evex x.raw.head then E.spread p.evex x broadcast else P.spread p.rest x broadcast) };
+    ghost spread = { λ p x broadcast. if is_evex x.raw.head then E.spread p.evex x broadcast else P.spread p.rest x broadcast };
 
-    ghost within = { λ p x broadcast byte small. chosen_within (is_evex x.raw.head) (E.spread p.evex x broadcast) (P.spread p.rest x broadcast) byte (E.within p.evex x broadcast byte small) (P.within p.rest x broadcast byte small) };
+    ghost within = { λ p x broadcast byte small.
+        cond_both (is_evex x.raw.head) (E.spread p.evex x broadcast) (P.spread p.rest x broadcast) (λ meant. Displacement (meant byte))
+        (λ _. E.within p.evex x broadcast byte small) (λ _. P.within p.rest x broadcast byte small) };
 
     fn spread(&self, record: &Record, broadcast: bool, byte: i8) -> i32 {
         if has_evex(record) {

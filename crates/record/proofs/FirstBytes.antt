@@ -8,7 +8,8 @@ use Rattle.record.specs.Classes.{has_class}
 use Rattle.record.specs.Flags.{has_flag}
 use Rattle.record.specs.Rules.{begins, begins_embedded, only_old, first_holds, head_first_holds, is_prefix, is_rex}
 use Rattle.record.specs.Facts.{first_byte_of, FirstByteBegins}
-use Rattle.record.proofs.Soundness.{both, rules_kept}
+use Rattle.std.proofs.lemmas.Bool.{and_parts}
+use Rattle.record.proofs.Soundness.{rules_kept}
 
 at_place : (f : ℕ → Bool) (b low : ℕ) → f b ≡ true → f (b + 1) ≡ true → f (b + 2) ≡ true → f (b + 3) ≡ true → f (b + 4) ≡ true → f (b + 5) ≡ true → f (b + 6) ≡ true → f (b + 7) ≡ true → low < 8 → f (b + low) ≡ true
 at_place f b zero p q r s t u v w h = ap f (omega arith) ∙ p
@@ -24,13 +25,13 @@ at_place f b (suc (suc (suc (suc (suc (suc (suc (suc n)))))))) p q r s t u v w h
 -- one test of eight in a row, by the place
 nth_of_eight : (f : ℕ → Bool) (b low : ℕ) → (f b && (f (b + 1) && (f (b + 2) && (f (b + 3) && (f (b + 4) && (f (b + 5) && (f (b + 6) && f (b + 7)))))))) ≡ true → low < 8 → f (b + low) ≡ true
 nth_of_eight f b low e h =
-    let e0 = both (f b) _ e in
-    let e1 = both (f (b + 1)) _ e0.1 in
-    let e2 = both (f (b + 2)) _ e1.1 in
-    let e3 = both (f (b + 3)) _ e2.1 in
-    let e4 = both (f (b + 4)) _ e3.1 in
-    let e5 = both (f (b + 5)) _ e4.1 in
-    let e6 = both (f (b + 6)) _ e5.1 in
+    let e0 = and_parts (f b) _ e in
+    let e1 = and_parts (f (b + 1)) _ e0.1 in
+    let e2 = and_parts (f (b + 2)) _ e1.1 in
+    let e3 = and_parts (f (b + 3)) _ e2.1 in
+    let e4 = and_parts (f (b + 4)) _ e3.1 in
+    let e5 = and_parts (f (b + 5)) _ e4.1 in
+    let e6 = and_parts (f (b + 6)) _ e5.1 in
     at_place f b low e0.0 e1.0 e2.0 e3.0 e4.0 e5.0 e6.0 e6.1 h
 
 clear : (p x old : Bool) → (not p && (not x || old)) ≡ true → (p ≡ false) × (old ≡ false → x ≡ false)
@@ -56,7 +57,7 @@ old_not false new e = refl
 pub first_byte_begins : FirstByteBegins
 first_byte_begins r h low p l =
     let raw = r.raw in
-    let held : head_first_holds raw raw.head ≡ true = (both _ (head_first_holds raw raw.head) (rules_kept r).first_byte).1 in
+    let held : head_first_holds raw raw.head ≡ true = (and_parts _ (head_first_holds raw raw.head) (rules_kept r).first_byte).1 in
     let first : first_holds raw h ≡ true = sym (ap (head_first_holds raw) p) ∙ held in
     let begun_here = begun (only_old raw) (first_byte_of raw h low) (first_begun raw h low (not (eqb h.table_byte1 0)) raw.is_2byte_opcode (has_class Embedded raw.operands) l first) in
     (begun_here.0, λ new. begun_here.1 (old_not (has_flag raw.enc_flags3 Flags.Bit16Or32) (has_flag raw.enc_flags3 Flags.Bit64) new))

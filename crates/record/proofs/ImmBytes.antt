@@ -10,7 +10,8 @@ use Rattle.record.specs.declared.op.Op.TheVariants.{ModRmRm, ModRmRmMemOnly, Vsi
 use Rattle.record.specs.Immediates.{imm_after, imm_byte, imm_first, imm_count, imm_shape}
 use Rattle.record.specs.Rules.{branch_holds, op_imm_holds, shape_known}
 use Rattle.record.specs.Facts.{ImmBytesKnown}
-use Rattle.record.proofs.Soundness.{both, rules_kept}
+use Rattle.std.proofs.lemmas.Bool.{and_parts}
+use Rattle.record.proofs.Soundness.{rules_kept}
 
 branch_few : (n s : ℕ) (k : OpKind) → kind_number k ≡ n → branch_holds k s ≡ true → s ≤ 8
 branch_few n s k p e = grind (arith, nat_tests)
@@ -54,11 +55,11 @@ not_wrong x k e = let z : ◌≡◌ {A = Bool} false true = sym (ap shape_known 
 pub imm_bytes_known : ImmBytesKnown
 imm_bytes_known r =
     let x = r.raw.operands in
-    let e = both (shape_known (imm_shape x)) _ (rules_kept r).immediates in
-    let e0 = both (op_imm_holds x.op0) _ e.1 in
-    let e1 = both (op_imm_holds x.op1) _ e0.1 in
-    let e2 = both (op_imm_holds x.op2) _ e1.1 in
-    let e3 = both (op_imm_holds x.op3) _ e2.1 in
+    let e = and_parts (shape_known (imm_shape x)) _ (rules_kept r).immediates in
+    let e0 = and_parts (op_imm_holds x.op0) _ e.1 in
+    let e1 = and_parts (op_imm_holds x.op1) _ e0.1 in
+    let e2 = and_parts (op_imm_holds x.op2) _ e1.1 in
+    let e3 = and_parts (op_imm_holds x.op3) _ e2.1 in
     let start : imm_count Imm.Nothing ≤ 8 = omega arith in
     let a = after_few Imm.Nothing x.op0 e0.0 start in
     let b = after_few _ x.op1 e1.0 a in

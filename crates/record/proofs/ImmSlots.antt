@@ -8,7 +8,8 @@ use Rattle.record.specs.Classes.{bit}
 use Rattle.record.specs.Immediates.{imm_after, imm_byte, imm_first, imm_shape}
 use Rattle.record.specs.Rules.{shape_known}
 use Rattle.record.specs.Facts.{imm_slots, is_immediate, ImmediatesOwnedOnce}
-use Rattle.record.proofs.Soundness.{both, rules_kept}
+use Rattle.std.proofs.lemmas.Bool.{and_parts}
+use Rattle.record.proofs.Soundness.{rules_kept}
 
 -- one step that stays known came from a known one and takes one slot for an immediate
 abbrev Grows : ImmShape → ImmShape → ℕ → Type 0
@@ -54,7 +55,7 @@ immediates_owned_once r =
     let s2 = imm_after s1 x.op1 in
     let s3 = imm_after s2 x.op2 in
     let s4 = imm_after s3 x.op3 in
-    let e = after_grows s4 x.op4 (both (shape_known (imm_shape x)) _ (rules_kept r).immediates).0 in
+    let e = after_grows s4 x.op4 (and_parts (shape_known (imm_shape x)) _ (rules_kept r).immediates).0 in
     let d = after_grows s3 x.op3 e.0 in
     let c = after_grows s2 x.op2 d.0 in
     let b = after_grows s1 x.op1 c.0 in

@@ -1,6 +1,6 @@
 -- Two sound records of the same fields are one, since that they break no rule is a fact with one proof at most.
 use Rattle.std.proofs.Common.{◌≡◌, false, is_some, Some, None, Ok, Err, Option, Result, refl, ap, ◌∙◌, arith, MatchResult}
-use mathlib.Core.Bool.{Bool-set}
+use Rattle.std.proofs.Math.Bool.{Bool-set}
 use mathlib.Core.HLevel.{is_prop→PathP}
 use Rattle.fault.specs.declared.rule.Rule.{Rule}
 use Rattle.fault.specs.declared.making.MakingFault.{MakingFault}

@@ -8,7 +8,8 @@ use Rattle.record.specs.declared.op.Operands.{Operands}
 use Rattle.record.specs.declared.sound.Record.{Record}
 use Rattle.record.specs.Classes.{bit, class_count}
 use Rattle.record.specs.Facts.{op_places, owners, is_slot, SlotsOwnedOnce}
-use Rattle.record.proofs.Soundness.{both, rules_kept}
+use Rattle.std.proofs.lemmas.Bool.{and_parts}
+use Rattle.record.proofs.Soundness.{rules_kept}
 
 pub owners_append : (c : Class) (xs ys : List (Option Op)) → owners c (xs ++ ys) ≡ owners c xs + owners c ys
 owners_append c [] ys = omega arith
@@ -23,7 +24,7 @@ at_most n e = grind (arith, nat_tests)
 pub slot_once : (r : Record) (c : Class) → is_slot c ≡ true → class_count c r.raw.operands ≤ 1
 slot_once r RmSlot s =
     let x = r.raw.operands in
-    at_most (class_count RmSlot x) (both (leb (class_count RmSlot x) 1) _ (rules_kept r).slots).0
+    at_most (class_count RmSlot x) (and_parts (leb (class_count RmSlot x) 1) _ (rules_kept r).slots).0
 slot_once r Memory s = grind arith
 slot_once r Broadcastable s = grind arith
 slot_once r Vector s = grind arith
@@ -31,12 +32,12 @@ slot_once r Offset s = grind arith
 slot_once r Embedded s = grind arith
 slot_once r RegSlot s =
     let x = r.raw.operands in
-    let rest = (both (leb (class_count RmSlot x) 1) _ (rules_kept r).slots).1 in
-    at_most (class_count RegSlot x) (both (leb (class_count RegSlot x) 1) _ rest).0
+    let rest = (and_parts (leb (class_count RmSlot x) 1) _ (rules_kept r).slots).1 in
+    at_most (class_count RegSlot x) (and_parts (leb (class_count RegSlot x) 1) _ rest).0
 slot_once r Vvvv s =
     let x = r.raw.operands in
-    let rest = (both (leb (class_count RmSlot x) 1) _ (rules_kept r).slots).1 in
-    at_most (class_count Vvvv x) (both (leb (class_count RegSlot x) 1) _ rest).1
+    let rest = (and_parts (leb (class_count RmSlot x) 1) _ (rules_kept r).slots).1 in
+    at_most (class_count Vvvv x) (and_parts (leb (class_count RegSlot x) 1) _ rest).1
 
 pub slots_owned_once : SlotsOwnedOnce
 slots_owned_once r c front back o s e b =

@@ -1,13 +1,8 @@
 -- A sound record keeps every rule.
-use Rattle.std.proofs.Common.{◌≡◌, Bool, true, false, cond, not, ◌&&◌, is_some, Some, Option, refl, arith}
+use Rattle.std.proofs.Common.{◌≡◌, Bool, true, false, cond, not, is_some, Some, Option, refl, arith}
 use Rattle.fault.specs.declared.rule.Rule.{Rule}
 use Rattle.record.specs.Rules.{fields_hold, ranges_hold, slots_hold, mod_rm_holds, immediates_hold, heads_hold, modes_hold, first_byte_holds}
 use Rattle.record.specs.Facts.{RulesKept}
-
--- of two tests that hold together, each
-pub both : (a b : Bool) → (a && b) ≡ true → (a ≡ true) × (b ≡ true)
-both true b e = (refl, e)
-both false b e = grind arith
 
 -- where no test of a chain speaks, the first passed and the rest say nothing
 passed : (t : Bool) (rule : Rule) (rest : Option Rule) → is_some (cond (not t) (Some rule) rest) ≡ false → (t ≡ true) × (is_some rest ≡ false)

@@ -1,6 +1,6 @@
 -- A line cut at a byte is the parts and the byte.
 use Rattle.std.proofs.Common.{◌≡◌, ℕ, suc, ◌+◌, ◌-◌, ◌<◌, List, ◌∷◌, ◌++◌, length, get_or, take, drop, sym, ap, ◌∙◌, arith, length-take, get_or-take}
-use lib.Seq.{split_at}
+use Rattle.std.proofs.Math.Seq.{split_at}
 use Rattle.std.proofs.lemmas.List.{take_rest}
 
 module _ (l : List ℕ) (b k : ℕ) (h : k < length l) (e : get_or l k 0 ≡ b) where

@@ -1,5 +1,6 @@
 -- The size of an address, and the registers that it is made of.
 use Rattle.std.proofs.Common.{◌≡◌, ℕ, ◌+◌, ◌-◌, ◌<◌, ◌≤◌, Bool, true, false, cond, not, ◌&&◌, eqb, ◌⊎◌, is_some, Some, None, Ok, Option, refl, inl, inr, arith}
+use Rattle.std.proofs.lemmas.Bool.{not-false}
 use Rattle.std.proofs.lemmas.Bool.Decides.{nat_tests}
 use Rattle.machine.specs.declared.code_size.CodeSize.{CodeSize}
 use Rattle.machine.specs.declared.code_size.CodeSize.TheVariants.{Unknown, Code16, Code32, Code64}
@@ -13,7 +14,7 @@ use Rattle.gather.specs.Address.{code_bytes, register_bytes, joined_bytes, addre
 use Rattle.gather.specs.Memory.{address_bank, is_rip, index_bank, base_allowed, index_allowed, checked_of, bank_number}
 use Rattle.fields.specs.Prefixes.{address_width}
 use Rattle.reader.specs.Addresses.{first_general}
-use Rattle.roundtrip.proofs.Basics.{past, not_false}
+use Rattle.roundtrip.proofs.Basics.{past}
 use Rattle.roundtrip.proofs.Shapes.{Below, named, first_index}
 
 pub checked_ok : (wide base index two : Bool) → checked_of wide base index two ≡ Ok tt → (wide ≡ false) × (base ≡ true) × (index ≡ true)
@@ -21,7 +22,7 @@ checked_ok wide base index two e =
     let a = past wide _ _ tt e in
     let b = past (not base) _ _ tt a.1 in
     let c = past (not index) _ _ tt b.1 in
-    (a.0, not_false base b.0, not_false index c.0)
+    (a.0, not-false base b.0, not-false index c.0)
 
 -- the vector bank of an index, where the record names one
 abbrev pub VectorBank : Option RegisterRange → Type 0

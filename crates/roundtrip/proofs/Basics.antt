@@ -1,5 +1,5 @@
 -- Answers taken apart.
-use Rattle.std.proofs.Common.{◌≡◌, ℕ, Bool, true, false, cond, not, ◌&&◌, ◌||◌, Ok, Err, Result, sym, refl, ◌∙◌, arith}
+use Rattle.std.proofs.Common.{◌≡◌, ℕ, Bool, true, false, cond, Ok, Err, Result, sym, refl, ◌∙◌, arith}
 use Rattle.gather.specs.Parts as Parts
 use Rattle.gather.specs.declared.refusal.Refusal.{Refusal}
 
@@ -15,33 +15,14 @@ pub past : {X E : Type 0} (b : Bool) (e : E) (rest : Result X E) (x : X) → con
 past true e rest x h = no_err e x h
 past false e rest x h = (refl, h)
 
+-- what a test lets through is what was accepted
+pub kept_ok : {X E : Type 0} (b : Bool) (e : E) (x y : X) → cond b (Ok x) (Err e) ≡ Ok y → y ≡ x
+kept_ok true e x y h = cc
+kept_ok false e x y h = no_err e y h
+
 pub same_ok : {X E : Type 0} (x y : X) → ◌≡◌ {A = Result X E} (Ok x) (Ok y) → x ≡ y
 same_ok x y h = cc
-
-pub not_false : (b : Bool) → not b ≡ false → b ≡ true
-not_false true h = refl
-not_false false h = sym h
-
-pub false_from : (b : Bool) → not b ≡ true → b ≡ false
-false_from true h = sym h
-false_from false h = refl
 
 -- a test is not both
 pub clash : {A : Type 0} (b : Bool) → b ≡ true → b ≡ false → A
 clash b t f = let z : true ≡ false = sym t ∙ f in let k : ◌≡◌ {A = ℕ} 0 1 = cc in absurd (omega arith)
-
-pub or_left : (a b : Bool) → (a || b) ≡ false → a ≡ false
-or_left true b h = h
-or_left false b h = refl
-
-pub or_right : (a b : Bool) → (a || b) ≡ false → b ≡ false
-or_right true b h = clash true refl h
-or_right false b h = h
-
-pub and_left : (a b : Bool) → (a && b) ≡ true → a ≡ true
-and_left true b h = refl
-and_left false b h = h
-
-pub and_right : (a b : Bool) → (a && b) ≡ true → b ≡ true
-and_right true b h = h
-and_right false b h = clash false h refl

@@ -1,7 +1,7 @@
 -- What an operand leaves alone, and that numbers stay in range.
-use Rattle.std.proofs.Common.{◌≡◌, ℕ, ◌/◌, ◌%◌, ◌<◌, Bool, true, false, cond, ◌||◌, eqb, leb, ℤ, is_some, Some, None, Ok, Err, Option, Result, sym, refl, ap, ◌∙◌, arith}
+use Rattle.std.proofs.Common.{◌≡◌, ℕ, ◌/◌, ◌%◌, ◌<◌, Bool, true, false, cond, ◌||◌, eqb, leb, ℤ, is_some, Some, None, Ok, Option, sym, refl, ap, ◌∙◌, arith}
+use Rattle.std.proofs.lemmas.Bool.{or_left, or_from}
 use Rattle.std.proofs.lemmas.Bool.Decides.{nat_tests}
-use Rattle.fault.specs.declared.operand.OperandFault.{OperandFault}
 use Rattle.fault.specs.declared.operand.OperandFault.TheVariants as F
 use Rattle.machine.specs.declared.mode.Mode.{Mode}
 use Rattle.machine.specs.declared.op_kind.OpKind.{OpKind}
@@ -28,7 +28,7 @@ use Rattle.gather.specs.declared.parts.Parts.{Parts}
 use Rattle.gather.specs.declared.parts.RmPart.{RmPart}
 use Rattle.gather.specs.declared.register.RegPart.{RegPart}
 use Rattle.gather.specs.Address.{address_bytes, in_range}
-use Rattle.gather.specs.Immediates.{byte_operand, expecting, same_kind}
+use Rattle.gather.specs.Immediates.{byte_operand, same_kind}
 use Rattle.gather.specs.declared.parts.Displ.TheVariants.{Absent}
 use Rattle.gather.specs.Memory.{mem}
 use Rattle.gather.specs.Memory16.{mem16}
@@ -37,7 +37,7 @@ use Rattle.gather.specs.Registers.{reg_part}
 use Rattle.gather.specs.Steps.{Spread, mem_sized, broadcasts, with_rm, with_flags, with_imm, addressing, put_rm_register, put_reg, put_embedded, put_vvvv, put_offset}
 use Rattle.encoder.specs.Fields.{imm_length}
 use Rattle.roundtrip.specs.Law.{Words}
-use Rattle.roundtrip.proofs.Basics.{no_err, past, same_ok, clash}
+use Rattle.roundtrip.proofs.Basics.{past, kept_ok, clash}
 use Rattle.roundtrip.proofs.Shapes.{PartFits}
 use Rattle.roundtrip.proofs.Addressing.{VectorBank}
 use Rattle.roundtrip.proofs.MemorySays.{Says}
@@ -83,10 +83,6 @@ pub record Frame (h : Head) (m : Mode) (i : Instruction) (op : Op) (p q : Parts)
   pub high_up : p.flags.high ≡ true → q.flags.high ≡ true
   pub fit : Fit h m p → Fit h m q
 
-or_up : (a b : Bool) → a ≡ true → (a || b) ≡ true
-or_up true b e = refl
-or_up false b e = clash false e refl
-
 -- the vector bank of an operand with a vector index
 vector_bank : (g : RegisterRange) → (range_vector16 g || range_vector32 g) ≡ true → VectorBank (Some g)
 vector_bank g e = go (range_vector16 g) refl (range_vector32 g) refl e
@@ -98,9 +94,6 @@ vector_bank g e = go (range_vector16 g) refl (range_vector32 g) refl e
 
 rex_low : (m : Mode) (g : RegisterRange) (n : ℕ) → in_range m g n ≡ true → is64 m ≡ false → (reg_part g n).rex ≡ false
 rex_low m g n r z = grind (arith, nat_tests)
-
-both_false : (a b : Bool) → a ≡ false → b ≡ false → (a || b) ≡ false
-both_false a b x y = simp (x, y)
 
 module _ (sp : Spread) (m : Mode) (r : Record) (i : Instruction) (words : Words i) where
   -- every memory operand says its address
@@ -154,7 +147,7 @@ module _ (sp : Spread) (m : Mode) (r : Record) (i : Instruction) (words : Words 
     part = reg_part g n
 
     no_rex : Fit h m p → is64 m ≡ false → (p.flags.rex || part.rex) ≡ false
-    no_rex f z = both_false p.flags.rex part.rex (f.rex z) (rex_low m g n inside z)
+    no_rex f z = or_from p.flags.rex part.rex (f.rex z) (rex_low m g n inside z)
 
     rm_frame : BankFacts h false g → Frame h m i (ModRmRm g) p (put_rm_register p part)
     rm_frame facts =
@@ -166,8 +159,8 @@ module _ (sp : Spread) (m : Mode) (r : Record) (i : Instruction) (words : Words 
           imm_same = λ _. refl;
           imm_on = λ s x. x;
           w_same = refl;
-          rex_up = or_up p.flags.rex part.rex;
-          high_up = or_up p.flags.high part.high;
+          rex_up = or_left p.flags.rex part.rex;
+          high_up = or_left p.flags.high part.high;
           fit = λ f. record { reg = f.reg; low = f.low; vvvv = f.vvvv; rm = rm_register_fits part.number k.small; rm_low = λ z. low_bits (k.low z); rex = no_rex f };
         }
       where
@@ -183,8 +176,8 @@ module _ (sp : Spread) (m : Mode) (r : Record) (i : Instruction) (words : Words 
           imm_same = λ _. refl;
           imm_on = λ s x. x;
           w_same = refl;
-          rex_up = or_up p.flags.rex part.rex;
-          high_up = or_up p.flags.high part.high;
+          rex_up = or_left p.flags.rex part.rex;
+          high_up = or_left p.flags.high part.high;
           fit = λ f. record { reg = (number_fits h false m g n facts inside).0; low = f.low; vvvv = f.vvvv; rm = f.rm; rm_low = f.rm_low; rex = no_rex f };
         }
 
@@ -213,8 +206,8 @@ module _ (sp : Spread) (m : Mode) (r : Record) (i : Instruction) (words : Words 
           imm_same = λ _. refl;
           imm_on = λ s x. x;
           w_same = refl;
-          rex_up = or_up p.flags.rex part.rex;
-          high_up = or_up p.flags.high part.high;
+          rex_up = or_left p.flags.rex part.rex;
+          high_up = or_left p.flags.high part.high;
           fit = λ f. record { reg = f.reg; low = omega arith; vvvv = f.vvvv; rm = record { mode_lt = f.rm.mode_lt; rm_lt = f.rm.rm_lt; b_lt = omega arith; x_lt = f.rm.x_lt; v2_lt = f.rm.v2_lt; sib_fits = f.rm.sib_fits }; rm_low = λ z. low_bits (k.low z) (f.rm_low z); rex = no_rex f };
         }
       where
@@ -265,23 +258,9 @@ module _ (sp : Spread) (m : Mode) (r : Record) (i : Instruction) (words : Words 
   first_on shape (Shape.J s) x y h e = tt
   first_on shape Shape.Wrong x y h e = tt
 
-  expected_ok : (k kind : OpKind) (x y : Imm) → expecting k kind x ≡ Ok y → y ≡ x
-  expected_ok k kind x y e = go (same_kind k kind) e
-    where
-      go : (t : Bool) → ◌≡◌ {A = Result Imm OperandFault} (cond t (Ok x) (Err F.OpKind)) (Ok y) → y ≡ x
-      go true e = sym (same_ok x y e)
-      go false e = no_err F.OpKind y e
-
-  second_ok : (a : ℕ) (kind : OpKind) (y : Imm) → ◌≡◌ {A = Result Imm OperandFault} (cond (eqb (kind_number kind) 7) (Ok (Imms.Size1And1 a (low8 i.mem_displ))) (Err F.OpKind)) (Ok y) → y ≡ Imms.Size1And1 a (low8 i.mem_displ)
-  second_ok a kind y e = go (eqb (kind_number kind) 7) e
-    where
-      go : (t : Bool) → ◌≡◌ {A = Result Imm OperandFault} (cond t (Ok (Imms.Size1And1 a (low8 i.mem_displ))) (Err F.OpKind)) (Ok y) → y ≡ Imms.Size1And1 a (low8 i.mem_displ)
-      go true e = sym (same_ok _ y e)
-      go false e = no_err F.OpKind y e
-
   byte_on : (k kind : OpKind) (s : ImmShape) (x y : Imm) → byte_operand x k kind i ≡ Ok y → ImmIs i s x → ImmIs i (imm_byte s) y
-  byte_on k kind Shape.Nothing x y e z = expected_ok k kind _ y (ap (λ w. byte_operand w k kind i) (sym z) ∙ e)
-  byte_on k kind Shape.Ib x y e z = second_ok _ kind y (ap (λ w. byte_operand w k kind i) (sym z) ∙ e)
+  byte_on k kind Shape.Nothing x y e z = kept_ok (same_kind k kind) F.OpKind _ y (ap (λ w. byte_operand w k kind i) (sym z) ∙ e)
+  byte_on k kind Shape.Ib x y e z = kept_ok (eqb (kind_number kind) 7) F.OpKind _ y (ap (λ w. byte_operand w k kind i) (sym z) ∙ e)
   byte_on k kind Shape.IbIb x y e z = tt
   byte_on k kind Shape.Id x y e z = tt
   byte_on k kind Shape.Iq x y e z = tt

@@ -1,5 +1,6 @@
 -- Memory operands with 32-bit and 64-bit addresses.
 use Rattle.std.proofs.Common.{◌≡◌, ℕ, ◌+◌, ◌-◌, ◌%◌, ◌<◌, ◌≤◌, Bool, true, false, cond, not, ◌&&◌, ◌||◌, eqb, ltb, ◌⊎◌, ℤ, is_some, Some, None, Ok, Option, Result, sym, refl, ap, ◌∙◌, inl, inr, arith, w32, w64, to_z, of_z}
+use Rattle.std.proofs.lemmas.Bool.{not-false, or_parts}
 use Rattle.std.proofs.lemmas.Bool.Decides.{nat_tests}
 use Rattle.machine.specs.declared.mode.Mode.{Mode}
 use Rattle.machine.specs.declared.scale.Scale.{Scale}
@@ -23,8 +24,8 @@ use Rattle.roundtrip.specs.Law.{Words}
 use Rattle.fields.specs.declared.lead.Lead.{Lead}
 use Rattle.reader.specs.Addresses.{modulo, displ_number, index_of, scale_of, index16, counts_on, first_general}
 use Rattle.roundtrip.specs.Meant.{scale_meant}
-use Rattle.roundtrip.proofs.Basics.{no_err, then_ok, past, same_ok, not_false, clash, or_left, or_right}
-use Rattle.roundtrip.proofs.Shapes.{displ_length, PartFits, part_fits, part_low, Holds, mod_rm_read, Below, Goes, named, Indexed, first_index, base_back, index_back, scale_back, size_back, sib_there}
+use Rattle.roundtrip.proofs.Basics.{no_err, then_ok, past, same_ok, clash}
+use Rattle.roundtrip.proofs.Shapes.{displ_length, PartFits, part_fits, part_low, Holds, mod_rm_read, Below, Goes, named, Indexed, first_index, base_back, index_back, scale_back, size_back, sib_there, mode_small}
 use Rattle.roundtrip.proofs.Displacements.{Ranged, ranged, extended, whole_back, Stands, out_value, out_back, based_ok, unbased_ok}
 use Rattle.roundtrip.proofs.Addressing.{checked_ok, VectorBank, size_known, width_back, base_named, index_named, IndexBelow, bank_none}
 use Rattle.roundtrip.proofs.MemorySays.{Says, displ_value, displ_in}
@@ -99,7 +100,7 @@ module _ (f : ℤ → ℤ) (m : Mode) (must : Bool) (vsib : Option RegisterRange
         base = λ lead at reg h. simp (t, b);
         index = λ lead at reg h _. sym x;
         scale = λ lead at reg h. no_scale 8 _ _ x;
-        displ = λ next place imm e far. ap (λ z. displ_in 8 next z (displ_number f 4 (displ_value place imm (D.RipRelSize4Target64 i.mem_displ)))) b ∙ rip64_back next place imm i.mem_displ words.displ e (not_false _ far);
+        displ = λ next place imm e far. ap (λ z. displ_in 8 next z (displ_number f 4 (displ_value place imm (D.RipRelSize4Target64 i.mem_displ)))) b ∙ rip64_back next place imm i.mem_displ words.displ e (not-false _ far);
       }
 
   rip32_says : is64 m ≡ true → is_some vsib ≡ false → (must || is_some vsib) ≡ false → i.memory.base.number ≡ 69 → i.memory.index.number ≡ 0 → Says f m must vsib i 4 (plain_part 0 5 (D.RipRelSize4Target32 (i.mem_displ % 4294967296)))
@@ -142,7 +143,7 @@ module _ (f : ℤ → ℤ) (m : Mode) (must : Bool) (vsib : Option RegisterRange
       let c = past (not (is64 m)) _ _ p b.1 in
       let d = past must _ _ p c.1 in
       let x : i.memory.index.number ≡ 0 = grind (arith, nat_tests) in
-      go (eqb i.memory.base.number 70) refl (ltb 4294967295 i.mem_displ) d.1 (not_false _ c.0) (no_sib_asked must vsib v d.0) x
+      go (eqb i.memory.base.number 70) refl (ltb 4294967295 i.mem_displ) d.1 (not-false _ c.0) (no_sib_asked must vsib v d.0) x
     where
       go : (t : Bool) → eqb i.memory.base.number 70 ≡ t → (far : Bool)
           → ◌≡◌ {A = Result RmPart Refusal} (cond t (Ok (plain_part 0 5 (D.RipRelSize4Target64 i.mem_displ))) (cond far (refusing F.EipTarget (plain_part 0 5 (D.RipRelSize4Target32 0))) (Ok (plain_part 0 5 (D.RipRelSize4Target32 (i.mem_displ % 4294967296)))))) (Ok p)
@@ -232,8 +233,9 @@ module _ (f : ℤ → ℤ) (m : Mode) (must : Bool) (vsib : Option RegisterRange
             → ◌≡◌ {A = Result RmPart Refusal} (cond t (Ok (offset_part (scale_number i.memory.scale))) (Ok (plain_part 0 5 (D.Size4 (i.mem_displ % 4294967296))))) (Ok p) → Says f m must vsib i width p
         go true t h = here _ (same_ok _ p h) (sib_offset_says (scale_number i.memory.scale) (scale_small i.memory.scale))
         go false t h =
-            let l = or_left (is64 m) _ t in
-            let k = or_right _ must (or_right (is64 m) _ t) in
+            let parts = or_parts (is64 m) _ t in
+            let l = parts.0 in
+            let k = (or_parts _ must parts.1).1 in
             here _ (same_ok _ p h) (plain_offset_says l (simp (k, n)))
 
   -- base and index
@@ -322,18 +324,8 @@ module _ (f : ℤ → ℤ) (m : Mode) (must : Bool) (vsib : Option RegisterRange
         go None e (Some j) k = grind (arith, nat_tests)
         go None e None k = grind (arith, nat_tests)
 
-    mode_below : (o : Option ℕ) (out : Out) → out_mode o out < 3
-    mode_below (Some k) Nothing = omega arith
-    mode_below (Some k) (Byte u) = omega arith
-    mode_below (Some k) Full = omega arith
-    mode_below (Some k) Wrong = omega arith
-    mode_below None Nothing = omega arith
-    mode_below None (Byte u) = omega arith
-    mode_below None Full = omega arith
-    mode_below None Wrong = omega arith
-
     part_mode : (out : Out) → (part out).mode < 3
-    part_mode out = let z = mode_below base_is out in grind (arith, nat_tests)
+    part_mode out = let z = mode_small base_is out in grind (arith, nat_tests)
 
     in_vector : (g : RegisterRange) → vsib ≡ Some g → is_some index_is ≡ true → in_range m g i.memory.index.number ≡ true
     in_vector g e s = go vsib e x (sym (bank_none (index_bank width vsib) i.memory.index.number) ∙ s)

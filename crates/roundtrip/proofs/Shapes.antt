@@ -141,7 +141,7 @@ abbrev pub Below : ℕ → Option ℕ → Type 0
 Below n (Some k) = k < n
 Below n None = Unit {0}
 
-mode_small : (base : Option ℕ) (out : Out) → out_mode base out < 3
+pub mode_small : (base : Option ℕ) (out : Out) → out_mode base out < 3
 mode_small (Some k) Nothing = omega arith
 mode_small (Some k) (Byte v) = omega arith
 mode_small (Some k) Full = omega arith

@@ -1,6 +1,6 @@
 -- How the words of a row go on and end.
 use Rattle.std.proofs.Common.{◌≡◌, ℕ, zero, suc, ◌+◌, ◌<◌, ◌≤◌, cond, List, length, Ok, Err, Result, sym, refl, ap, ◌∙◌, arith, le-leb}
-use borrow.Author.Tests.{lt-leb}
+use Rattle.std.proofs.lemmas.Bool.{lt-leb}
 use Rattle.text.specs.declared.draft.Draft.{Draft}
 use Rattle.text.specs.declared.row_fault.RowFault.{RowFault}
 use Rattle.text.specs.Drafts.{step_of}

@@ -1,6 +1,6 @@
 -- The examples, by computation.
 use Rattle.std.proofs.Common.{refl}
-use lib.Count.{ones}
+use Rattle.std.specs.Int.Count.{ones}
 use Rattle.catalogue.specs.Built.{built_rows}
 use Rattle.catalogue.specs.Meaning.{row_of}
 use Rattle.instruction.specs.Making.{size_made, kind_made, scale_made, opmask_made, rounding_made, register_made, segment_made}

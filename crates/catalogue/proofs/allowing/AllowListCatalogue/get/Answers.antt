@@ -1,5 +1,5 @@
 use Rattle.std.proofs.Common.{◌≡◌, ◌<◌, ◌≤◌, length, get_or, take, sym, ap, ◌∙◌, arith, length-take, rules, eqb-true}
-use borrow.Author.Tests.{eqb-false}
+use Rattle.std.proofs.lemmas.Bool.{eqb-false}
 use Rattle.std.proofs.lemmas.List.{drop_all, get_or-take}
 use Rattle.catalogue.specs.Meaning.{allowed_of}
 use Rattle.catalogue.proofs.Allowed.{allow_hit, allow_miss}

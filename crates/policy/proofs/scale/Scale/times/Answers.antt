@@ -1,5 +1,5 @@
 use Rattle.std.proofs.Common.{◌≡◌, ◌∙◌, w32, SFits}
-use mir.Facts.{sfits_widen}
+use Rattle.std.proofs.Math.Facts.{sfits_widen}
 use Rattle.std.proofs.lemmas.Int.{to_z-of_z}
 use Rattle.policy.specs.Bytes.{moved_up}
 use Rattle.policy.specs.Scales.{scale_small}
