@@ -1,4 +1,4 @@
-use Rattle.std.specs.Prelude.{ℕ, List, [], ◌∷◌, Option}
+use Rattle.std.specs.Prelude.{ℕ, Bool, true, false, List, [], ◌∷◌, Option}
 use Rattle.machine.specs.Codes.{look}
 use Rattle.machine.specs.declared.mode.Mode.{Mode}
 use Rattle.machine.specs.declared.mode.Mode.TheVariants.{Bits16, Bits32, Bits64}
@@ -15,3 +15,15 @@ modes = Bits16 ∷ Bits32 ∷ Bits64 ∷ []
 -- the value of a number
 abbrev pub mode_named : ℕ → Option Mode
 mode_named = look mode_number modes
+
+-- whether the code is of 64 bits
+abbrev pub is64 : Mode → Bool
+is64 Bits16 = false
+is64 Bits32 = false
+is64 Bits64 = true
+
+-- the bytes of an address in a mode
+abbrev pub mode_bytes : Mode → ℕ
+mode_bytes Bits16 = 2
+mode_bytes Bits32 = 4
+mode_bytes Bits64 = 8

@@ -53,6 +53,7 @@ impl Bank {
     }
 
     // the register at a place of the bank
+    #[tactic(auto, using(crate::proofs::Banked::bank_back))]
     pub fn register(self, index: u8) -> Option<Register>
         ensures value { result ≡ bank_register self index }
         ensures back { BankBack }

@@ -6,7 +6,7 @@ ghost use Rattle.std.proofs.Common.{rules};
 use super::code::Code;
 
 // A width of code, addresses or operands, or none stated: 0 to 3.
-#[derive(Clone, Copy)]
+#[derive(Clone, Copy, PartialEq, Eq)]
 pub enum CodeSize {
     Unknown,
     Code16,

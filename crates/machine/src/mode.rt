@@ -1,12 +1,12 @@
 ghost use Rattle.std.specs.Prelude.{◌≡◌};
-ghost use Rattle.machine.specs.Modes.{mode_number, mode_named, modes};
+ghost use Rattle.machine.specs.Modes.{mode_number, mode_named, modes, is64, mode_bytes};
 ghost use Rattle.machine.specs.Look.{look_there};
 ghost use Rattle.std.proofs.Common.{rules};
 
 use super::code::Code;
 
 // The processor's mode, by the bits of its code: 16, 32 or 64.
-#[derive(Clone, Copy)]
+#[derive(Clone, Copy, PartialEq, Eq)]
 pub enum Mode {
     Bits16,
     Bits32,
@@ -36,6 +36,26 @@ impl Code for Mode {
             32 => Some(Mode::Bits32),
             64 => Some(Mode::Bits64),
             _ => None,
+        }
+    }
+}
+
+impl Mode {
+    // whether the code is of 64 bits
+    pub fn is64(self) -> bool
+        ensures { result ≡ is64 self }
+    {
+        self == Mode::Bits64
+    }
+
+    // the bytes of an address
+    pub fn bytes(self) -> u8
+        ensures { result ≡ mode_bytes self }
+    {
+        match self {
+            Mode::Bits16 => 2,
+            Mode::Bits32 => 4,
+            Mode::Bits64 => 8,
         }
     }
 }

@@ -6,7 +6,7 @@ ghost use Rattle.std.proofs.Common.{rules};
 use super::code::Code;
 
 // What an operand of an instruction is, with the source's numbers 0 to 24.
-#[derive(Clone, Copy)]
+#[derive(Clone, Copy, PartialEq, Eq)]
 pub enum OpKind {
     Register,
     NearBranch16,

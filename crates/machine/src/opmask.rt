@@ -6,7 +6,7 @@ ghost use Rattle.std.proofs.Common.{rules};
 use super::code::Code;
 
 // The mask register that an instruction works under, or none: 0 to 7.
-#[derive(Clone, Copy)]
+#[derive(Clone, Copy, PartialEq, Eq)]
 pub enum Opmask {
     Unmasked,
     K1,

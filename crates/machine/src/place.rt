@@ -6,13 +6,18 @@ ghost use Rattle.std.proofs.Common.{rules};
 use super::code::Code;
 
 // The place of an operand in its instruction: 0 to 4.
-#[derive(Clone, Copy)]
+#[derive(Clone, Copy, PartialEq, Eq)]
 pub enum Place {
     Op0,
     Op1,
     Op2,
     Op3,
     Op4,
+}
+
+impl Place {
+    // the places in their order
+    pub const ALL: [Place; 5] = [Place::Op0, Place::Op1, Place::Op2, Place::Op3, Place::Op4];
 }
 
 impl Code for Place {

@@ -11,10 +11,7 @@ use super::register::Register;
 fn place_in(bank: Option<Bank>, number: u8) -> u8
     ensures { result ≡ place_in bank number }
 {
-    match bank {
-        Some(bank) => number.saturating_sub(bank.first()),
-        None => 0,
-    }
+    bank.map_or(0, |bank| number.saturating_sub(bank.first()))
 }
 
 // a number that a register has
@@ -46,15 +43,13 @@ impl Register {
     }
 
     // the register of a name that is filled up with zeros to five places
+    #[tactic(auto, using(crate::proofs::Named::name_there))]
     pub fn from_name(name: [u8; 5]) -> Option<Register>
         ensures value { result ≡ register_named name }
         ensures there { NameThere }
         ensures back { NameBack }
     {
-        match number_of(name) {
-            Some(number) => Register::new(number),
-            None => None,
-        }
+        Register::new(number_of(name)?)
     }
 
     pub fn bank(self) -> Option<Bank>
@@ -77,6 +72,7 @@ impl Register {
     }
 
     // the place in the bank, 0 where there is none
+    #[tactic(auto, using(crate::proofs::Banked::bank_there))]
     pub fn index(self) -> u8
         ensures value { result ≡ bank_index self.number }
         ensures there { BankThere }

@@ -6,7 +6,7 @@ ghost use Rattle.std.proofs.Common.{rules};
 use super::code::Code;
 
 // Rounding stated by an instruction, or none: 0 to 4.
-#[derive(Clone, Copy)]
+#[derive(Clone, Copy, PartialEq, Eq)]
 pub enum RoundingControl {
     Unstated,
     ToNearest,

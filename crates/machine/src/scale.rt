@@ -6,7 +6,7 @@ ghost use Rattle.std.proofs.Common.{rules};
 use super::code::Code;
 
 // The factor of a memory operand's index, by its power of two: 0 to 3.
-#[derive(Clone, Copy)]
+#[derive(Clone, Copy, PartialEq, Eq)]
 pub enum Scale {
     By1,
     By2,
