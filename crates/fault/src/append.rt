@@ -3,6 +3,7 @@ ghost use Rattle.fault.specs.declared.append.AppendFault.TheVariants.{Encode, Sh
 
 use super::encode::EncodeFault;
 use super::sheet::SheetFault;
+use std::fmt;
 
 // The refusal of an append: the sheet's own, or the encoding's, which stands whole inside.
 #[derive(Clone, Copy)]
@@ -24,5 +25,14 @@ impl From<SheetFault> for AppendFault {
 
     fn from(e: SheetFault) -> AppendFault {
         AppendFault::Sheet(e)
+    }
+}
+
+impl fmt::Display for AppendFault {
+    fn fmt<W: fmt::Write>(&self, f: &mut fmt::Formatter<W>) -> fmt::Result {
+        match self {
+            AppendFault::Sheet(fault) => write!(f, "{fault}"),
+            AppendFault::Encode(fault) => write!(f, "{fault}"),
+        }
     }
 }

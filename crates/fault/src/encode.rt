@@ -3,7 +3,8 @@ ghost use Rattle.fault.specs.declared.encode.EncodeFault.TheVariants.{Encoding};
 
 use super::encoding::EncodingFault;
 use super::operand::OperandFault;
-use machine::Place;
+use machine::{Code, Place};
+use std::fmt;
 
 // The first refusal of an encoding: an operand's, with its place, or another.
 #[derive(Clone, Copy)]
@@ -17,5 +18,17 @@ impl From<EncodingFault> for EncodeFault {
 
     fn from(e: EncodingFault) -> EncodeFault {
         EncodeFault::Encoding(e)
+    }
+}
+
+impl fmt::Display for EncodeFault {
+    fn fmt<W: fmt::Write>(&self, f: &mut fmt::Formatter<W>) -> fmt::Result {
+        match self {
+            EncodeFault::Operand(place, fault) => {
+                let place = place.number();
+                write!(f, "operand {place}: {fault}")
+            }
+            EncodeFault::Encoding(fault) => write!(f, "{fault}"),
+        }
     }
 }

@@ -22,37 +22,36 @@ pub enum EncodingFault {
 }
 
 // what is wrong, and what was expected
-pub(crate) fn words(fault: EncodingFault) -> &'static str {
-    match fault {
-        EncodingFault::Only1632 => "the record is for modes 16 and 32 only",
-        EncodingFault::Only64 => "the record is for mode 64 only",
-        EncodingFault::HighByteWithRex =>
-            "AH, CH, DH or BH is used together with something that needs a REX prefix",
-        EncodingFault::OpmaskNotAllowed => "an opmask register is used and the record allows none",
-        EncodingFault::OpmaskRequired => "no opmask register is used and the record requires one",
-        EncodingFault::SaeNotAllowed =>
-            "suppress-all-exceptions is asked and the record does not have it",
-        EncodingFault::RoundingNotAllowed =>
-            "rounding control is asked and the record does not have it",
-        EncodingFault::BroadcastNotAllowed =>
-            "broadcast is asked and the record or operand does not have it",
-        EncodingFault::ZeroingNotAllowed => "zeroing is asked and the record does not have it",
-        EncodingFault::RipDistance =>
-            "the RIP relative target is farther away than 32 signed bits reach",
-        EncodingFault::BranchDistance =>
-            "the branch target is farther away than its displacement reaches",
-        EncodingFault::TooLong => "the instruction is longer than fifteen bytes",
-        EncodingFault::VsibWithoutIndex =>
-            "an address with a vector index has a base and no index; its bytes would read as index register 4",
-        EncodingFault::MemoryWithRounding =>
-            "a memory operand is used with suppress-all-exceptions or rounding; its bytes would read as broadcast",
-        EncodingFault::Setting => "a setting is outside its range: 0 or 1, and 0 to 3 for evex_lig",
-        EncodingFault::Mode => "the mode is not 16, 32 or 64",
-    }
-}
-
 impl fmt::Display for EncodingFault {
     fn fmt<W: fmt::Write>(&self, f: &mut fmt::Formatter<W>) -> fmt::Result {
-        f.write_str(words(*self))
+        f.write_str(match self {
+            EncodingFault::Only1632 => "the record is for modes 16 and 32 only",
+            EncodingFault::Only64 => "the record is for mode 64 only",
+            EncodingFault::HighByteWithRex =>
+                "AH, CH, DH or BH is used together with something that needs a REX prefix",
+            EncodingFault::OpmaskNotAllowed =>
+                "an opmask register is used and the record allows none",
+            EncodingFault::OpmaskRequired =>
+                "no opmask register is used and the record requires one",
+            EncodingFault::SaeNotAllowed =>
+                "suppress-all-exceptions is asked and the record does not have it",
+            EncodingFault::RoundingNotAllowed =>
+                "rounding control is asked and the record does not have it",
+            EncodingFault::BroadcastNotAllowed =>
+                "broadcast is asked and the record or operand does not have it",
+            EncodingFault::ZeroingNotAllowed => "zeroing is asked and the record does not have it",
+            EncodingFault::RipDistance =>
+                "the RIP relative target is farther away than 32 signed bits reach",
+            EncodingFault::BranchDistance =>
+                "the branch target is farther away than its displacement reaches",
+            EncodingFault::TooLong => "the instruction is longer than fifteen bytes",
+            EncodingFault::VsibWithoutIndex =>
+                "an address with a vector index has a base and no index; its bytes would read as index register 4",
+            EncodingFault::MemoryWithRounding =>
+                "a memory operand is used with suppress-all-exceptions or rounding; its bytes would read as broadcast",
+            EncodingFault::Setting =>
+                "a setting is outside its range: 0 or 1, and 0 to 3 for evex_lig",
+            EncodingFault::Mode => "the mode is not 16, 32 or 64",
+        })
     }
 }

@@ -1,6 +1,6 @@
 ghost use Rattle.std.specs.Prelude.{◌≡◌};
 ghost use Rattle.fault.specs.Numbers.{coded, fault_code, rule_number};
-ghost use Rattle.fault.specs.declared.fault.Fault.TheVariants.{Making, Encode};
+ghost use Rattle.fault.specs.declared.fault.Fault.TheVariants.{Making, Encode, Append, Read};
 
 use super::append::AppendFault;
 use super::code::FaultCode;
@@ -9,6 +9,7 @@ use super::making::MakingFault;
 use super::reader::ReadFault;
 use super::rule::Rule;
 use machine::Code;
+use std::fmt;
 
 // A refusal of any layer.
 #[derive(Clone, Copy)]
@@ -17,6 +18,38 @@ pub enum Fault {
     Encode(EncodeFault),
     Append(AppendFault),
     Read(ReadFault),
+}
+
+impl From<MakingFault> for Fault {
+    ghost from_gives = { λ e r. r ≡ Making e };
+
+    fn from(e: MakingFault) -> Fault {
+        Fault::Making(e)
+    }
+}
+
+impl From<EncodeFault> for Fault {
+    ghost from_gives = { λ e r. r ≡ Encode e };
+
+    fn from(e: EncodeFault) -> Fault {
+        Fault::Encode(e)
+    }
+}
+
+impl From<AppendFault> for Fault {
+    ghost from_gives = { λ e r. r ≡ Append e };
+
+    fn from(e: AppendFault) -> Fault {
+        Fault::Append(e)
+    }
+}
+
+impl From<ReadFault> for Fault {
+    ghost from_gives = { λ e r. r ≡ Read e };
+
+    fn from(e: ReadFault) -> Fault {
+        Fault::Read(e)
+    }
 }
 
 impl Fault {
@@ -72,5 +105,19 @@ impl Rule {
         ensures { result ≡ rule_number self }
     {
         self as u8
+    }
+}
+
+// what is wrong, and what was expected, with the refusal's number and layer
+impl fmt::Display for Fault {
+    fn fmt<W: fmt::Write>(&self, f: &mut fmt::Formatter<W>) -> fmt::Result {
+        match self {
+            Fault::Making(fault) => write!(f, "{fault}")?,
+            Fault::Encode(fault) => write!(f, "{fault}")?,
+            Fault::Append(fault) => write!(f, "{fault}")?,
+            Fault::Read(fault) => write!(f, "{fault}")?,
+        }
+        let FaultCode { number, layer, .. } = self.code();
+        write!(f, " (refusal {number}, layer {layer})")
     }
 }

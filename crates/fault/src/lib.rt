@@ -11,7 +11,6 @@ mod operand;
 mod reader;
 mod rule;
 mod sheet;
-mod words;
 
 pub use append::AppendFault;
 pub use code::FaultCode;

@@ -12,20 +12,17 @@ pub enum SheetFault {
 }
 
 // what is wrong, and what was expected
-pub(crate) fn words(fault: SheetFault) -> &'static str {
-    match fault {
-        SheetFault::PageShort => "the page is too short for the instruction",
-        SheetFault::IndexFull =>
-            "the index is full: 4096 instructions, or no free entry in one of its arrays",
-        SheetFault::NoRecord => "the catalogue has no record of this number",
-        SheetFault::Setting => "a setting is outside its range: 0 or 1, and 0 to 3 for evex_lig",
-        SheetFault::Shrunk => "the page or an array is shorter than what the sheet holds",
-        SheetFault::Mode => "the mode is not 16, 32 or 64",
-    }
-}
-
 impl fmt::Display for SheetFault {
     fn fmt<W: fmt::Write>(&self, f: &mut fmt::Formatter<W>) -> fmt::Result {
-        f.write_str(words(*self))
+        f.write_str(match self {
+            SheetFault::PageShort => "the page is too short for the instruction",
+            SheetFault::IndexFull =>
+                "the index is full: 4096 instructions, or no free entry in one of its arrays",
+            SheetFault::NoRecord => "the catalogue has no record of this number",
+            SheetFault::Setting =>
+                "a setting is outside its range: 0 or 1, and 0 to 3 for evex_lig",
+            SheetFault::Shrunk => "the page or an array is shorter than what the sheet holds",
+            SheetFault::Mode => "the mode is not 16, 32 or 64",
+        })
     }
 }
