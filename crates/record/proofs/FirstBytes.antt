@@ -8,31 +8,15 @@ use Rattle.record.specs.Classes.{has_class}
 use Rattle.record.specs.Flags.{has_flag}
 use Rattle.record.specs.Rules.{begins, begins_embedded, only_old, first_holds, head_first_holds, is_prefix, is_rex}
 use Rattle.record.specs.Facts.{first_byte_of, FirstByteBegins}
+use Rattle.std.specs.List.{list_all, range_with_len}
 use Rattle.std.proofs.lemmas.Bool.{and_parts}
 use Rattle.record.proofs.Soundness.{rules_kept}
 
-at_place : (f : ℕ → Bool) (b low : ℕ) → f b ≡ true → f (b + 1) ≡ true → f (b + 2) ≡ true → f (b + 3) ≡ true → f (b + 4) ≡ true → f (b + 5) ≡ true → f (b + 6) ≡ true → f (b + 7) ≡ true → low < 8 → f (b + low) ≡ true
-at_place f b zero p q r s t u v w h = ap f (omega arith) ∙ p
-at_place f b (suc zero) p q r s t u v w h = q
-at_place f b (suc (suc zero)) p q r s t u v w h = r
-at_place f b (suc (suc (suc zero))) p q r s t u v w h = s
-at_place f b (suc (suc (suc (suc zero)))) p q r s t u v w h = t
-at_place f b (suc (suc (suc (suc (suc zero))))) p q r s t u v w h = u
-at_place f b (suc (suc (suc (suc (suc (suc zero)))))) p q r s t u v w h = v
-at_place f b (suc (suc (suc (suc (suc (suc (suc zero))))))) p q r s t u v w h = w
-at_place f b (suc (suc (suc (suc (suc (suc (suc (suc n)))))))) p q r s t u v w h = absurd (omega arith)
-
--- one test of eight in a row, by the place
-nth_of_eight : (f : ℕ → Bool) (b low : ℕ) → (f b && (f (b + 1) && (f (b + 2) && (f (b + 3) && (f (b + 4) && (f (b + 5) && (f (b + 6) && f (b + 7)))))))) ≡ true → low < 8 → f (b + low) ≡ true
-nth_of_eight f b low e h =
-    let e0 = and_parts (f b) _ e in
-    let e1 = and_parts (f (b + 1)) _ e0.1 in
-    let e2 = and_parts (f (b + 2)) _ e1.1 in
-    let e3 = and_parts (f (b + 3)) _ e2.1 in
-    let e4 = and_parts (f (b + 4)) _ e3.1 in
-    let e5 = and_parts (f (b + 5)) _ e4.1 in
-    let e6 = and_parts (f (b + 6)) _ e5.1 in
-    at_place f b low e0.0 e1.0 e2.0 e3.0 e4.0 e5.0 e6.0 e6.1 h
+-- one test of so many in a row, by the place
+nth_in_row : (f : ℕ → Bool) (b n low : ℕ) → list_all f (range_with_len b n) ≡ true → low < n → f (b + low) ≡ true
+nth_in_row f b zero low e h = grind arith
+nth_in_row f b (suc n) zero e h = ap f (omega arith) ∙ (and_parts (f b) _ e).0
+nth_in_row f b (suc n) (suc low) e h = ap f (omega arith) ∙ nth_in_row f (b + 1) n low (and_parts (f b) _ e).1 (omega arith)
 
 clear : (p x old : Bool) → (not p && (not x || old)) ≡ true → (p ≡ false) × (old ≡ false → x ≡ false)
 clear true x old e = grind arith
@@ -46,7 +30,7 @@ begun old b e = clear (is_prefix b) (is_rex b) old e
 first_begun : (r : RawRecord) (h : LegacyHead) (low : ℕ) (one two embedded : Bool) → low < 8 → cond one (begins (only_old r) h.table_byte1) (cond two (begins (only_old r) (r.op_code / 256)) (cond embedded (begins_embedded (only_old r) r.op_code) (begins (only_old r) r.op_code))) ≡ true → begins (only_old r) (cond one h.table_byte1 (cond two (r.op_code / 256) (cond embedded (r.op_code + low) r.op_code))) ≡ true
 first_begun r h low true two embedded l e = e
 first_begun r h low false true embedded l e = e
-first_begun r h low false false true l e = nth_of_eight (begins (only_old r)) r.op_code low e l
+first_begun r h low false false true l e = nth_in_row (begins (only_old r)) r.op_code 8 low e l
 first_begun r h low false false false l e = e
 
 old_not : (old new : Bool) → new ≡ true → (old && not new) ≡ false

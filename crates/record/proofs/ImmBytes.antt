@@ -1,5 +1,8 @@
 -- The immediates of a sound record take at most eight bytes.
-use Rattle.std.proofs.Common.{◌≡◌, ℕ, ◌≤◌, Bool, true, false, Some, None, Option, sym, refl, ap, ◌∙◌, arith}
+use Rattle.std.specs.Prelude.{fold}
+use Rattle.std.specs.List.{list_all}
+use Rattle.record.specs.Classes.{op_places}
+use Rattle.std.proofs.Common.{◌≡◌, ℕ, ◌≤◌, Bool, true, false, List, [], ◌∷◌, Some, None, Option, sym, refl, ap, ◌∙◌, arith}
 use Rattle.std.proofs.lemmas.Bool.Decides.{nat_tests}
 use Rattle.machine.specs.declared.op_kind.OpKind.{OpKind}
 use Rattle.machine.specs.OpKinds.{kind_number}
@@ -49,6 +52,10 @@ after_few x (Some Iq) e h = first_few x Imm.Iq (omega arith)
 after_few x (Some (J k s)) e h = first_few x (Imm.J s) (branch_few (kind_number k) s k refl e)
 after_few x None e h = h
 
+all_few : (os : List (Option Op)) (x : ImmShape) → list_all op_imm_holds os ≡ true → imm_count x ≤ 8 → imm_count (fold imm_after x os) ≤ 8
+all_few [] x e h = h
+all_few (o ∷ os) x e h = let both = and_parts (op_imm_holds o) (list_all op_imm_holds os) e in all_few os (imm_after x o) both.1 (after_few x o both.0 h)
+
 not_wrong : (x : ImmShape) → shape_known x ≡ true → x ≡ Imm.Wrong → ⊥
 not_wrong x k e = let z : ◌≡◌ {A = Bool} false true = sym (ap shape_known e) ∙ k in grind arith
 
@@ -56,13 +63,4 @@ pub imm_bytes_known : ImmBytesKnown
 imm_bytes_known r =
     let x = r.raw.operands in
     let e = and_parts (shape_known (imm_shape x)) _ (rules_kept r).immediates in
-    let e0 = and_parts (op_imm_holds x.op0) _ e.1 in
-    let e1 = and_parts (op_imm_holds x.op1) _ e0.1 in
-    let e2 = and_parts (op_imm_holds x.op2) _ e1.1 in
-    let e3 = and_parts (op_imm_holds x.op3) _ e2.1 in
-    let start : imm_count Imm.Nothing ≤ 8 = omega arith in
-    let a = after_few Imm.Nothing x.op0 e0.0 start in
-    let b = after_few _ x.op1 e1.0 a in
-    let c = after_few _ x.op2 e2.0 b in
-    let d = after_few _ x.op3 e3.0 c in
-    (not_wrong (imm_shape x) e.0, after_few _ x.op4 e3.1 d)
+    (not_wrong (imm_shape x) e.0, all_few (op_places x) Imm.Nothing e.1 (omega arith))

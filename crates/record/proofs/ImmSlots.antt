@@ -1,10 +1,12 @@
 -- The immediate operands of a sound record and the slots of its immediate field are as many.
-use Rattle.std.proofs.Common.{◌≡◌, ℕ, ◌+◌, true, Some, None, Option, refl, arith}
+use Rattle.std.specs.Prelude.{fold, sum_by}
+use Rattle.std.proofs.lemmas.List.Sums.{sum_by-cons}
+use Rattle.std.proofs.Common.{◌≡◌, ℕ, ◌+◌, true, List, [], ◌∷◌, Some, None, Option, refl, arith}
 use Rattle.record.specs.declared.imm.ImmShape.{ImmShape}
 use Rattle.record.specs.declared.imm.ImmShape.TheVariants as Imm
 use Rattle.record.specs.declared.op.Op.{Op}
 use Rattle.record.specs.declared.op.Op.TheVariants.{ModRmRm, ModRmRmMemOnly, Vsib, O, ModRmReg, RegEmbed8, Reg, Hx, Ib, Id, Iq, J}
-use Rattle.record.specs.Classes.{bit}
+use Rattle.record.specs.Classes.{bit, op_places}
 use Rattle.record.specs.Immediates.{imm_after, imm_byte, imm_first, imm_shape}
 use Rattle.record.specs.Rules.{shape_known}
 use Rattle.record.specs.Facts.{imm_slots, is_immediate, ImmediatesOwnedOnce}
@@ -48,16 +50,17 @@ after_grows x (Some Iq) k = first_grows x Imm.Iq refl k
 after_grows x (Some (J e s)) k = first_grows x (Imm.J s) refl k
 after_grows x None k = (k, omega arith)
 
+all_grow : (os : List (Option Op)) (x : ImmShape) → shape_known (fold imm_after x os) ≡ true → Grows x (fold imm_after x os) (sum_by (λ o. bit (is_immediate o)) os)
+all_grow [] x k = (k, omega arith)
+all_grow (o ∷ os) x k =
+    let rest = all_grow os (imm_after x o) k in
+    let here = after_grows x o rest.0 in
+    let slots : Option Op → ℕ = λ o. bit (is_immediate o) in
+    let all : imm_slots (fold imm_after (imm_after x o) os) ≡ imm_slots x + sum_by slots (o ∷ os) = omega (arith, here.1, rest.1, sum_by-cons slots o os) in
+    (here.0, all)
+
 pub immediates_owned_once : ImmediatesOwnedOnce
 immediates_owned_once r =
     let x = r.raw.operands in
-    let s1 = imm_after Imm.Nothing x.op0 in
-    let s2 = imm_after s1 x.op1 in
-    let s3 = imm_after s2 x.op2 in
-    let s4 = imm_after s3 x.op3 in
-    let e = after_grows s4 x.op4 (and_parts (shape_known (imm_shape x)) _ (rules_kept r).immediates).0 in
-    let d = after_grows s3 x.op3 e.0 in
-    let c = after_grows s2 x.op2 d.0 in
-    let b = after_grows s1 x.op1 c.0 in
-    let a = after_grows Imm.Nothing x.op0 b.0 in
-    omega (arith, a.1, b.1, c.1, d.1, e.1)
+    let grown = all_grow (op_places x) Imm.Nothing (and_parts (shape_known (imm_shape x)) _ (rules_kept r).immediates).0 in
+    omega (arith, grown.1)

@@ -1,22 +1,16 @@
 -- Each slot of a sound record has at most one owner.
-use Rattle.std.proofs.Common.{◌≡◌, ℕ, ◌+◌, ◌≤◌, true, leb, List, [], ◌∷◌, ◌++◌, Option, ap, ◌∙◌, arith}
+use Rattle.std.proofs.Common.{◌≡◌, ℕ, ◌+◌, ◌≤◌, Bool, true, cond, leb, List, [], ◌∷◌, ◌++◌, Option, ap, ◌∙◌, arith}
 use Rattle.std.proofs.lemmas.Bool.Decides.{nat_tests}
 use Rattle.record.specs.declared.class.Class.{Class}
 use Rattle.record.specs.declared.class.Class.TheVariants.{RmSlot, Memory, Broadcastable, Vector, Offset, Embedded, RegSlot, Vvvv}
 use Rattle.record.specs.declared.op.Op.{Op}
 use Rattle.record.specs.declared.op.Operands.{Operands}
 use Rattle.record.specs.declared.sound.Record.{Record}
-use Rattle.record.specs.Classes.{bit, class_count}
-use Rattle.record.specs.Facts.{op_places, owners, is_slot, SlotsOwnedOnce}
+use Rattle.record.specs.Classes.{belongs_at, op_places, class_count}
+use Rattle.record.specs.Facts.{owners, is_slot, SlotsOwnedOnce}
 use Rattle.std.proofs.lemmas.Bool.{and_parts}
+use Rattle.std.proofs.lemmas.List.Sums.{sum_by-append, sum_by-cons}
 use Rattle.record.proofs.Soundness.{rules_kept}
-
-pub owners_append : (c : Class) (xs ys : List (Option Op)) → owners c (xs ++ ys) ≡ owners c xs + owners c ys
-owners_append c [] ys = omega arith
-owners_append c (x ∷ xs) ys = omega (arith, owners_append c xs ys)
-
-pub owners_count : (c : Class) (x : Operands) → owners c (op_places x) ≡ class_count c x
-owners_count c x = omega arith
 
 at_most : (n : ℕ) → leb n 1 ≡ true → n ≤ 1
 at_most n e = grind (arith, nat_tests)
@@ -41,6 +35,9 @@ slot_once r Vvvv s =
 
 pub slots_owned_once : SlotsOwnedOnce
 slots_owned_once r c front back o s e b =
-    let all : owners c (op_places r.raw.operands) ≡ owners c front + (1 + owners c back) = ap (owners c) e ∙ owners_append c front (o ∷ back) ∙ ap (λ n. owners c front + (n + owners c back)) (ap bit b) in
-    let few : owners c (op_places r.raw.operands) ≤ 1 = omega (arith, owners_count c r.raw.operands, slot_once r c s) in
+    let one : Option Op → ℕ = λ o. cond (belongs_at c o) 1 0 in
+    let here : one o ≡ 1 = ap (λ (t : Bool). cond t 1 0) b in
+    let all : owners c (op_places r.raw.operands) ≡ owners c front + owners c (o ∷ back) = ap (owners c) e ∙ sum_by-append one front (o ∷ back) in
+    let split : owners c (o ∷ back) ≡ one o + owners c back = sum_by-cons one o back in
+    let few : owners c (op_places r.raw.operands) ≤ 1 = slot_once r c s in
     (omega arith, omega arith)

@@ -1,4 +1,5 @@
-use Rattle.std.specs.Prelude.{ℕ, ◌+◌, Bool, true, false, ◌||◌, Some, None, Option, ◌==◌, nat_le, nat_lt}
+use Rattle.std.specs.Prelude.{ℕ, ◌+◌, Bool, true, false, ◌||◌, List, [], ◌∷◌, Some, None, Option, ◌==◌, nat_le, nat_lt, count_by}
+use Rattle.std.specs.List.{list_any}
 use Rattle.record.specs.declared.class.Class.{Class}
 use Rattle.record.specs.declared.class.Class.TheVariants.{RmSlot, Memory, Broadcastable, Vector, Offset, Embedded, RegSlot, Vvvv}
 use Rattle.record.specs.declared.op.Op.{Op}
@@ -42,9 +43,13 @@ abbrev pub bit : Bool → ℕ
 bit true = 1
 bit false = 0
 
+-- the places in their order
+abbrev pub op_places : Operands → List (Option Op)
+op_places x = x.op0 ∷ x.op1 ∷ x.op2 ∷ x.op3 ∷ x.op4 ∷ []
+
 -- how many operands belong to a class
 abbrev pub class_count : Class → Operands → ℕ
-class_count c x = bit (belongs_at c x.op0) + bit (belongs_at c x.op1) + bit (belongs_at c x.op2) + bit (belongs_at c x.op3) + bit (belongs_at c x.op4)
+class_count c x = count_by (belongs_at c) (op_places x)
 
 abbrev pub has_class : Class → Operands → Bool
-has_class c x = nat_lt 0 (class_count c x)
+has_class c x = list_any (belongs_at c) (op_places x)

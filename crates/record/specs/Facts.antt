@@ -1,5 +1,5 @@
 -- What follows of a sound record, and what the encoder and the reader ask of one.
-use Rattle.std.specs.Prelude.{◌≡◌, ℕ, ◌+◌, ◌/◌, ◌<◌, ◌≤◌, Bool, true, false, cond, not, ◌||◌, List, [], ◌∷◌, ◌++◌, Some, None, Option, ◌==◌, ◌≢◌, nat_le}
+use Rattle.std.specs.Prelude.{◌≡◌, ℕ, ◌+◌, ◌/◌, ◌<◌, ◌≤◌, Bool, true, false, cond, not, ◌||◌, List, [], ◌∷◌, ◌++◌, Some, None, Option, ◌==◌, ◌≢◌, nat_le, count_by}
 use Rattle.machine.specs.declared.place.Place.{Place}
 use Rattle.machine.specs.declared.place.Place.TheVariants.{Op0, Op1, Op2, Op3, Op4}
 use Rattle.record.specs.declared.class.Class.{Class}
@@ -15,7 +15,7 @@ use Rattle.record.specs.declared.op.Operands.{Operands}
 use Rattle.record.specs.declared.op.RegisterRange.{RegisterRange}
 use Rattle.record.specs.declared.raw.RawRecord.{RawRecord}
 use Rattle.record.specs.declared.sound.Record.{Record}
-use Rattle.record.specs.Classes.{op_number, belongs_at, bit, has_class}
+use Rattle.record.specs.Classes.{op_number, op_places, belongs_at, bit, has_class}
 use Rattle.record.specs.Flags.{has_flag}
 use Rattle.record.specs.Immediates.{imm_shape, imm_count}
 use Rattle.record.specs.Rules.{fields_hold, ranges_hold, slots_hold, mod_rm_holds, immediates_hold, heads_hold, modes_hold, first_byte_holds, is_legacy, is_evex, range_holds, grouped, is_prefix, is_rex}
@@ -39,14 +39,9 @@ pub record Sound (r : RawRecord) : Type 0 where
   pub modes : modes_hold r ≡ true
   pub first_byte : first_byte_holds r ≡ true
 
--- the places in their order
-abbrev pub op_places : Operands → List (Option Op)
-op_places x = x.op0 ∷ (x.op1 ∷ (x.op2 ∷ (x.op3 ∷ (x.op4 ∷ []))))
-
 -- how many of the places belong to a class
 abbrev pub owners : Class → List (Option Op) → ℕ
-owners c [] = 0
-owners c (o ∷ os) = bit (belongs_at c o) + owners c os
+owners c os = count_by (belongs_at c) os
 
 -- the classes that stand for one slot of the encoding
 abbrev pub is_slot : Class → Bool

@@ -1,4 +1,5 @@
-use Rattle.std.specs.Prelude.{ℕ, Some, None, Option}
+use Rattle.std.specs.Prelude.{ℕ, Some, None, Option, fold}
+use Rattle.record.specs.Classes.{op_places}
 use Rattle.record.specs.declared.imm.ImmShape.{ImmShape}
 use Rattle.record.specs.declared.imm.ImmShape.TheVariants as Imm
 use Rattle.record.specs.declared.op.Op.{Op}
@@ -43,7 +44,7 @@ imm_after x None = x
 
 -- the immediate operands taken together
 abbrev pub imm_shape : Operands → ImmShape
-imm_shape x = imm_after (imm_after (imm_after (imm_after (imm_after Imm.Nothing x.op0) x.op1) x.op2) x.op3) x.op4
+imm_shape x = fold imm_after Imm.Nothing (op_places x)
 
 -- how many bytes the immediates take
 abbrev pub imm_count : ImmShape → ℕ

@@ -1,5 +1,5 @@
 -- The rules under which a record is sound, each a test of its fields, and the first that is broken.
-use Rattle.std.specs.Prelude.{ℕ, ◌+◌, ◌/◌, ◌%◌, Bool, true, false, cond, not, ◌&&◌, ◌||◌, ℤ, pos, negsuc, is_some, Some, None, Option, ◌==◌, count_ones, int_le, nat_le, nat_lt}
+use Rattle.std.specs.Prelude.{ℕ, ◌+◌, ◌/◌, ◌%◌, Bool, true, false, cond, not, ◌&&◌, ◌||◌, ℤ, pos, negsuc, is_some, Some, None, Option, ◌==◌, count_ones, drop, zip, int_le, nat_le, nat_lt}
 use Rattle.machine.specs.declared.code_size.CodeSize.{CodeSize}
 use Rattle.machine.specs.declared.op_kind.OpKind.{OpKind}
 use Rattle.machine.specs.CodeSizes.{size_number}
@@ -20,13 +20,14 @@ use Rattle.fault.specs.declared.rule.Rule.{Rule}
 use Rattle.fault.specs.declared.rule.Rule.TheVariants as Rules
 use Rattle.record.specs.declared.imm.ImmShape.{ImmShape}
 use Rattle.record.specs.declared.imm.ImmShape.TheVariants as Imm
-use Rattle.record.specs.Classes.{has_class, class_count}
+use Rattle.std.specs.List.{list_all, range_with_len}
+use Rattle.record.specs.Classes.{op_places, has_class, class_count}
 use Rattle.record.specs.Flags.{has_flag}
 use Rattle.record.specs.Immediates.{imm_shape}
 
--- one test of each place, and of none
+-- one test of each place
 abbrev pub each : (Option Op → Bool) → Operands → Bool
-each p x = p x.op0 && (p x.op1 && (p x.op2 && (p x.op3 && p x.op4)))
+each p x = list_all p (op_places x)
 
 abbrev pub is_legacy : Head → Bool
 is_legacy (Legacy h) = true
@@ -96,11 +97,7 @@ fixed_known None = true
 
 -- a place is filled only where the one before it is
 abbrev pub no_gaps : Operands → Bool
-no_gaps x =
-    (is_some x.op0 || not (is_some x.op1))
-    && ((is_some x.op1 || not (is_some x.op2))
-    && ((is_some x.op2 || not (is_some x.op3))
-    && (is_some x.op3 || not (is_some x.op4))))
+no_gaps x = list_all (λ pair. is_some pair.0 || not (is_some pair.1)) (zip (op_places x) (drop 1 (op_places x)))
 
 abbrev pub code_known : RawRecord → Bool
 code_known r = nat_lt r.op_code (cond r.is_2byte_opcode 65536 256)
@@ -282,8 +279,7 @@ begins only_old b = not (is_prefix b) && (not (is_rex b) || only_old)
 
 -- the same of every byte that an embedded register can make of b
 abbrev pub begins_embedded : Bool → ℕ → Bool
-begins_embedded o b =
-    begins o b && (begins o (b + 1) && (begins o (b + 2) && (begins o (b + 3) && (begins o (b + 4) && (begins o (b + 5) && (begins o (b + 6) && begins o (b + 7)))))))
+begins_embedded o b = list_all (begins o) (range_with_len b 8)
 
 abbrev pub only_old : RawRecord → Bool
 only_old r = has_flag r.enc_flags3 Flags.Bit16Or32 && not (has_flag r.enc_flags3 Flags.Bit64)

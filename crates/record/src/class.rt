@@ -48,10 +48,7 @@ impl Op {
 fn belongs_at(place: Option<Op>, class: Class) -> bool
     ensures { result ≡ belongs_at class place }
 {
-    match place {
-        Some(op) => op.belongs(class),
-        None => false,
-    }
+    place.is_some_and(|op| op.belongs(class))
 }
 
 impl Operands {
@@ -59,21 +56,15 @@ impl Operands {
     pub fn count(&self, class: Class) -> u8
         ensures { result ≡ class_count class self.now }
     {
-        belongs_at(self.op0, class) as u8
-            + belongs_at(self.op1, class) as u8
-            + belongs_at(self.op2, class) as u8
-            + belongs_at(self.op3, class) as u8
-            + belongs_at(self.op4, class) as u8
+        let places = self.places();
+        let owners = places.iter().filter(|place| belongs_at(**place, class));
+        owners.count() as u8
     }
 
     // whether some operand is of the class
     pub fn has(&self, class: Class) -> bool
         ensures { result ≡ has_class class self.now }
     {
-        belongs_at(self.op0, class)
-            || belongs_at(self.op1, class)
-            || belongs_at(self.op2, class)
-            || belongs_at(self.op3, class)
-            || belongs_at(self.op4, class)
+        self.places().iter().any(|place| belongs_at(*place, class))
     }
 }

@@ -1,3 +1,6 @@
+ghost use Rattle.std.specs.Prelude.{◌≡◌};
+ghost use Rattle.record.specs.Rules.{is_legacy, is_evex};
+
 // What stands before the opcode of a legacy record.
 #[derive(Clone, Copy)]
 pub struct LegacyHead {
@@ -32,4 +35,19 @@ pub enum Head {
     Legacy(LegacyHead),
     Vex(VexHead),
     Evex(EvexHead),
+}
+
+impl Head {
+    pub(crate) fn is_legacy(&self) -> bool
+        ensures { result ≡ is_legacy self.now }
+    {
+        matches!(self, Head::Legacy(_))
+    }
+
+    // whether the head is EVEX
+    pub fn is_evex(&self) -> bool
+        ensures { result ≡ is_evex self.now }
+    {
+        matches!(self, Head::Evex(_))
+    }
 }

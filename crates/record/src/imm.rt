@@ -53,11 +53,8 @@ impl Operands {
     pub fn immediates(&self) -> ImmShape
         ensures { result ≡ imm_shape self.now }
     {
-        ImmShape::Nothing
-            .after(self.op0)
-            .after(self.op1)
-            .after(self.op2)
-            .after(self.op3)
-            .after(self.op4)
+        self.places()
+            .iter()
+            .fold(ImmShape::Nothing, |shape, place| shape.after(*place))
     }
 }

@@ -1,3 +1,6 @@
+ghost use Rattle.std.specs.Prelude.{◌≡◌};
+ghost use Rattle.record.specs.Classes.{op_places};
+
 use machine::OpKind;
 
 // A range of registers by number, both ends included.
@@ -44,4 +47,13 @@ pub struct Operands {
     pub op2: Option<Op>,
     pub op3: Option<Op>,
     pub op4: Option<Op>,
+}
+
+impl Operands {
+    // the places in their order
+    pub(crate) fn places(&self) -> [Option<Op>; 5]
+        ensures { result ≡ op_places self.now }
+    {
+        [self.op0, self.op1, self.op2, self.op3, self.op4]
+    }
 }

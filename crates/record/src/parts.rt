@@ -29,9 +29,7 @@ impl RawRecord {
         let group = self.group_index >= 0 || self.rm_group_index >= 0;
         operand || group
     }
-}
 
-impl RawRecord {
     fn imm_bytes(&self) -> u8
         ensures { result ≡ imm_bytes self.now }
     {
@@ -42,6 +40,7 @@ impl RawRecord {
 // What the encoder and the reader ask of a sound record, and what follows of its being sound.
 impl Record {
     // the operand at a place
+    #[tactic(auto, using(crate::proofs::BankFacts::banks_known))]
     pub fn op(&self, place: Place) -> Option<Op>
         ensures value { result ≡ op_at self.now.raw.operands place }
         ensures once { SlotsOwnedOnce }
@@ -51,6 +50,7 @@ impl Record {
     }
 
     // whether there is a ModRM byte
+    #[tactic(auto, using(crate::proofs::ModRms::mod_rm_follows))]
     pub fn has_mod_rm(&self) -> bool
         ensures value { result ≡ has_mod_rm self.now.raw }
         ensures follows { ModRmFollows }
@@ -59,6 +59,7 @@ impl Record {
     }
 
     // how many immediate bytes there are
+    #[tactic(auto, using(crate::proofs::ImmBytes::imm_bytes_known, crate::proofs::ImmSlots::immediates_owned_once))]
     pub fn immediate_bytes(&self) -> u8
         ensures value { result ≡ imm_bytes self.now.raw }
         ensures few { ImmBytesKnown }
@@ -68,6 +69,7 @@ impl Record {
     }
 
     // the fields; they keep every rule, and the first byte of a legacy record begins an opcode
+    #[tactic(auto, using(crate::proofs::Soundness::rules_kept))]
     pub fn fields(&self) -> &RawRecord
         ensures value { result.now ≡ self.now.raw }
         ensures kept { RulesKept }

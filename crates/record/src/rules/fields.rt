@@ -87,20 +87,17 @@ impl Operands {
     fn no_gaps(&self) -> bool
         ensures { result ≡ no_gaps self.now }
     {
-        (self.op0.is_some() || self.op1.is_none())
-            && (self.op1.is_some() || self.op2.is_none())
-            && (self.op2.is_some() || self.op3.is_none())
-            && (self.op3.is_some() || self.op4.is_none())
+        let places = self.places();
+        places
+            .iter()
+            .zip(&places[1..])
+            .all(|(before, place)| before.is_some() || place.is_none())
     }
 
     fn fixed_known(&self) -> bool
         ensures { result ≡ each fixed_known self.now }
     {
-        fixed_known(self.op0)
-            && fixed_known(self.op1)
-            && fixed_known(self.op2)
-            && fixed_known(self.op3)
-            && fixed_known(self.op4)
+        self.places().iter().all(|place| fixed_known(*place))
     }
 
     fn known(&self) -> bool

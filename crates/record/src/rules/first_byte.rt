@@ -27,14 +27,7 @@ fn begins_embedded(only_old: bool, byte: u32) -> bool
     requires { byte < 65536 }
     ensures { result ≡ begins_embedded only_old byte }
 {
-    begins(only_old, byte)
-        && begins(only_old, byte + 1)
-        && begins(only_old, byte + 2)
-        && begins(only_old, byte + 3)
-        && begins(only_old, byte + 4)
-        && begins(only_old, byte + 5)
-        && begins(only_old, byte + 6)
-        && begins(only_old, byte + 7)
+    (byte..byte + 8).all(|byte| begins(only_old, byte))
 }
 
 impl RawRecord {

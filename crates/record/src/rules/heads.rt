@@ -20,11 +20,7 @@ impl Operands {
     fn vectors_hold(&self) -> bool
         ensures { result ≡ each op_vector_holds self.now }
     {
-        vector_holds(self.op0)
-            && vector_holds(self.op1)
-            && vector_holds(self.op2)
-            && vector_holds(self.op3)
-            && vector_holds(self.op4)
+        self.places().iter().all(|place| vector_holds(*place))
     }
 }
 

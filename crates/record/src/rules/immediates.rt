@@ -1,9 +1,9 @@
 // Rule 5: the immediate operands are a list that an instruction can have, and expect kinds that go with them.
 ghost use Rattle.std.specs.Prelude.{◌≡◌};
-ghost use Rattle.record.specs.Rules.{imm_kind, branch_holds, op_imm_holds, shape_known, immediates_hold};
+ghost use Rattle.record.specs.Rules.{imm_kind, branch_holds, op_imm_holds, shape_known, immediates_hold, each};
 
 use super::super::imm::ImmShape;
-use super::super::op::Op;
+use super::super::op::{Op, Operands};
 use super::super::raw::RawRecord;
 use machine::OpKind;
 
@@ -11,7 +11,7 @@ fn is_immediate(kind: OpKind) -> bool
     ensures { result ≡ imm_kind kind }
 {
     let number = kind as u8;
-    6 <= number && number <= 14
+    OpKind::Immediate8 as u8 <= number && number <= OpKind::Immediate32to64 as u8
 }
 
 // a branch over one byte may go to a target of 16, 32 or 64 bits, over two bytes of 16, over four of 32 or 64
@@ -40,6 +40,14 @@ fn immediate_holds(place: Option<Op>) -> bool
     }
 }
 
+impl Operands {
+    fn expect_immediates(&self) -> bool
+        ensures { result ≡ each op_imm_holds self.now }
+    {
+        self.places().iter().all(|place| immediate_holds(*place))
+    }
+}
+
 impl ImmShape {
     fn known(self) -> bool
         ensures { result ≡ shape_known self }
@@ -52,11 +60,6 @@ impl RawRecord {
     pub(crate) fn immediates_hold(&self) -> bool
         ensures { result ≡ immediates_hold self.now }
     {
-        self.operands.immediates().known()
-            && immediate_holds(self.operands.op0)
-            && immediate_holds(self.operands.op1)
-            && immediate_holds(self.operands.op2)
-            && immediate_holds(self.operands.op3)
-            && immediate_holds(self.operands.op4)
+        self.operands.immediates().known() && self.operands.expect_immediates()
     }
 }

@@ -1,24 +1,10 @@
 // Rule 2: a range of registers is one whole bank, of those that the head and the operand may have.
 ghost use Rattle.std.specs.Prelude.{◌≡◌};
-ghost use Rattle.record.specs.Rules.{is_legacy, is_evex, range_bytes, range_plain, range_vector16, range_vector32, range_holds, op_range_holds, ranges_hold};
+ghost use Rattle.record.specs.Rules.{range_bytes, range_plain, range_vector16, range_vector32, range_holds, op_range_holds, ranges_hold};
 
 use super::super::head::Head;
 use super::super::op::{Op, RegisterRange};
 use super::super::raw::RawRecord;
-
-impl Head {
-    pub(crate) fn is_legacy(&self) -> bool
-        ensures { result ≡ is_legacy self.now }
-    {
-        matches!(self, Head::Legacy(_))
-    }
-
-    pub(crate) fn is_evex(&self) -> bool
-        ensures { result ≡ is_evex self.now }
-    {
-        matches!(self, Head::Evex(_))
-    }
-}
 
 impl RegisterRange {
     // the whole 8-bit bank
@@ -78,10 +64,9 @@ impl RawRecord {
         ensures { result ≡ ranges_hold self.now }
     {
         let head = &self.head;
-        range_holds(head, self.operands.op0)
-            && range_holds(head, self.operands.op1)
-            && range_holds(head, self.operands.op2)
-            && range_holds(head, self.operands.op3)
-            && range_holds(head, self.operands.op4)
+        self.operands
+            .places()
+            .iter()
+            .all(|place| range_holds(head, *place))
     }
 }
