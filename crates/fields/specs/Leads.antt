@@ -3,7 +3,7 @@ use Rattle.std.specs.Prelude.{ℕ, ◌+◌, ◌-◌, ◌*◌, ◌/◌, ◌%◌, 
 use Rattle.fault.specs.declared.reader.ReadFault.{ReadFault}
 use Rattle.fault.specs.declared.reader.ReadFault.TheVariants.{Ends, Differs}
 use Rattle.machine.specs.declared.mode.Mode.{Mode}
-use Rattle.gather.specs.Address.{is64}
+use Rattle.machine.specs.Modes.{is64}
 use Rattle.record.specs.declared.class.Class.TheVariants.{Vvvv}
 use Rattle.record.specs.declared.flags.EncFlags3.{EncFlags3}
 use Rattle.record.specs.declared.flags.Flag.TheVariants as Flags

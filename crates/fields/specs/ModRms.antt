@@ -2,7 +2,7 @@
 use Rattle.std.specs.Prelude.{ℕ, ◌+◌, ◌*◌, ◌/◌, ◌%◌, Bool, true, cond, not, ◌&&◌, ◌||◌, List, ℤ, pos, negsuc, Some, None, Ok, Option, Result, ◌==◌}
 use Rattle.fault.specs.declared.reader.ReadFault.{ReadFault}
 use Rattle.machine.specs.declared.mode.Mode.{Mode}
-use Rattle.gather.specs.Address.{is64}
+use Rattle.machine.specs.Modes.{is64}
 use Rattle.record.specs.declared.class.Class.TheVariants.{RegSlot, Offset}
 use Rattle.record.specs.declared.flags.Flag.TheVariants as Flags
 use Rattle.record.specs.declared.op.Op.{Op}

@@ -1,7 +1,7 @@
 -- Registers by their numbers in the bytes.
 use Rattle.std.specs.Prelude.{ℕ, ◌+◌, ◌-◌, Bool, true, cond, not, ◌&&◌, ◌||◌, Some, None, Option, ◌==◌, nat_lt}
 use Rattle.machine.specs.declared.mode.Mode.{Mode}
-use Rattle.gather.specs.Address.{is64}
+use Rattle.machine.specs.Modes.{is64}
 use Rattle.record.specs.declared.class.Class.{Class}
 use Rattle.record.specs.declared.op.Op.{Op}
 use Rattle.record.specs.declared.op.Op.TheVariants.{ModRmRm, ModRmRmMemOnly, Vsib, O, ModRmReg, RegEmbed8, Reg, Hx, Ib, Id, Iq, J}

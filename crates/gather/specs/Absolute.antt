@@ -10,7 +10,7 @@ use Rattle.instruction.specs.Getters.{displ_bytes}
 use Rattle.gather.specs.declared.absolute.Offset.{Offset}
 use Rattle.gather.specs.declared.absolute.OffsetRefusal.{OffsetRefusal}
 use Rattle.gather.specs.declared.parts.Displ.TheVariants.{Absent, Size2, Size4, Size8}
-use Rattle.gather.specs.Address.{is64, mode_bytes}
+use Rattle.machine.specs.Modes.{is64, mode_bytes}
 use Rattle.gather.specs.Registers.{is_memory}
 
 -- refused before anything is set

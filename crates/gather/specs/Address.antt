@@ -3,22 +3,12 @@ use Rattle.std.specs.Prelude.{ℕ, ◌+◌, Bool, true, false, cond, not, ◌&&�
 use Rattle.machine.specs.declared.code_size.CodeSize.{CodeSize}
 use Rattle.machine.specs.declared.code_size.CodeSize.TheVariants.{Unknown, Code16, Code32, Code64}
 use Rattle.machine.specs.declared.mode.Mode.{Mode}
-use Rattle.machine.specs.declared.mode.Mode.TheVariants.{Bits16, Bits32, Bits64}
+use Rattle.machine.specs.Modes.{is64, mode_bytes}
 use Rattle.instruction.specs.declared.made.Instruction.{Instruction}
 use Rattle.instruction.specs.Getters.{displ_bytes}
 use Rattle.record.specs.declared.op.RegisterRange.{RegisterRange}
 
-abbrev pub is64 : Mode → Bool
-is64 Bits16 = false
-is64 Bits32 = false
-is64 Bits64 = true
-
--- the bytes of an address in a mode, and of a code size that is stated
-abbrev pub mode_bytes : Mode → ℕ
-mode_bytes Bits16 = 2
-mode_bytes Bits32 = 4
-mode_bytes Bits64 = 8
-
+-- the bytes of an address in a code size that is stated, and in a mode where it is not
 abbrev pub code_bytes : Mode → CodeSize → ℕ
 code_bytes m Unknown = mode_bytes m
 code_bytes m Code16 = 2

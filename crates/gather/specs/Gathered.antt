@@ -21,7 +21,7 @@ use Rattle.gather.specs.declared.parts.HeadFlags.{HeadFlags}
 use Rattle.gather.specs.declared.parts.Imm.TheVariants as Imms
 use Rattle.gather.specs.declared.parts.Parts.{Parts}
 use Rattle.gather.specs.declared.parts.RmPart.{RmPart}
-use Rattle.gather.specs.Address.{is64, mode_bytes}
+use Rattle.machine.specs.Modes.{is64, mode_bytes}
 use Rattle.gather.specs.Parts.{plain_part, blank}
 use Rattle.gather.specs.Steps.{Spread, Step, told, op_step}
 

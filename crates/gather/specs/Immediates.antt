@@ -10,7 +10,7 @@ use Rattle.instruction.specs.Getters.{low8, low16, low32, imm64}
 use Rattle.gather.specs.declared.immediate.Branch.{Branch}
 use Rattle.gather.specs.declared.parts.Imm.{Imm}
 use Rattle.gather.specs.declared.parts.Imm.TheVariants.{Absent, Size1, Size1And1, Size4, Size8, RipRelSize1Target16, RipRelSize1Target32, RipRelSize1Target64, RipRelSize2Target16, RipRelSize4Target32, RipRelSize4Target64}
-use Rattle.gather.specs.Address.{mode_bytes}
+use Rattle.machine.specs.Modes.{mode_bytes}
 
 abbrev pub same_kind : OpKind → OpKind → Bool
 same_kind a b = kind_number a == kind_number b

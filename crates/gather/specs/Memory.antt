@@ -16,7 +16,8 @@ use Rattle.gather.specs.declared.parts.Displ.{Displ}
 use Rattle.gather.specs.declared.parts.Displ.TheVariants.{Absent, Size1, Size4, RipRelSize4Target32, RipRelSize4Target64}
 use Rattle.gather.specs.declared.parts.RmPart.{RmPart}
 use Rattle.gather.specs.declared.refusal.Refusal.{Refusal}
-use Rattle.gather.specs.Address.{is64, in_range}
+use Rattle.machine.specs.Modes.{is64}
+use Rattle.gather.specs.Address.{in_range}
 use Rattle.gather.specs.Parts.{plain_part, blank, refusing, then}
 
 -- the general registers that addresses of this many bytes are made of

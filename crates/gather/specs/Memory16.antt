@@ -10,7 +10,7 @@ use Rattle.policy.specs.Lowest.{lowest}
 use Rattle.gather.specs.declared.parts.Displ.TheVariants.{Absent, Size1, Size2}
 use Rattle.gather.specs.declared.parts.RmPart.{RmPart}
 use Rattle.gather.specs.declared.refusal.Refusal.{Refusal}
-use Rattle.gather.specs.Address.{is64}
+use Rattle.machine.specs.Modes.{is64}
 use Rattle.gather.specs.Parts.{plain_part, blank, refusing}
 
 -- ModRM.rm of a pair of base and index: BX 24, BP 26, SI 27, DI 28

@@ -24,7 +24,8 @@ use Rattle.gather.specs.declared.parts.RmPart.{RmPart}
 use Rattle.gather.specs.declared.refusal.Refusal.{Refusal}
 use Rattle.gather.specs.declared.register.RegPart.{RegPart}
 use Rattle.gather.specs.Absolute.{absolute}
-use Rattle.gather.specs.Address.{address_bytes, mode_bytes}
+use Rattle.machine.specs.Modes.{mode_bytes}
+use Rattle.gather.specs.Address.{address_bytes}
 use Rattle.gather.specs.Immediates.{byte_operand, expecting, wide_operand, branch_operand}
 use Rattle.gather.specs.Memory.{mem}
 use Rattle.gather.specs.Memory16.{mem16}

@@ -2,7 +2,6 @@
 ghost use Rattle.std.specs.Prelude.{◌≡◌};
 ghost use Rattle.gather.specs.Absolute.{offset_blank, offset_2, offset_4, offset_8, offset_sized, absolute};
 
-use super::address::is64;
 use super::parts::Displ;
 use super::register::is_memory;
 use fault::OperandFault;
@@ -40,7 +39,7 @@ impl OffsetRefusal {
 fn offset_2(mode: Mode, displ: u64) -> Result<Offset, OffsetRefusal>
     ensures { result ≡ offset_2 mode displ }
 {
-    if is64(mode) {
+    if mode.is64() {
         return Err(OffsetRefusal::blank(OperandFault::Absolute16In64));
     }
     let p67 = matches!(mode, Mode::Bits32);
@@ -81,7 +80,7 @@ fn offset_4(mode: Mode, displ: u64) -> Result<Offset, OffsetRefusal>
 fn offset_8(mode: Mode, displ: u64) -> Result<Offset, OffsetRefusal>
     ensures { result ≡ offset_8 mode displ }
 {
-    if !is64(mode) {
+    if !mode.is64() {
         return Err(OffsetRefusal::blank(OperandFault::Absolute64Outside64));
     }
     Ok(Offset {

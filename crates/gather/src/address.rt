@@ -1,31 +1,15 @@
 ghost use Rattle.std.specs.Prelude.{◌≡◌, ◌≤◌};
-ghost use Rattle.gather.specs.Address.{is64, mode_bytes, code_bytes, register_bytes, joined_bytes, address_chosen, address_bytes, range_last, in_range};
+ghost use Rattle.gather.specs.Address.{code_bytes, register_bytes, joined_bytes, address_chosen, address_bytes, range_last, in_range};
 
 use instruction::Instruction;
 use machine::{CodeSize, Mode, Register};
 use record::RegisterRange;
 
-pub(crate) fn is64(mode: Mode) -> bool
-    ensures { result ≡ is64 mode }
-{
-    matches!(mode, Mode::Bits64)
-}
-
-pub(crate) fn mode_bytes(mode: Mode) -> u8
-    ensures { result ≡ mode_bytes mode }
-{
-    match mode {
-        Mode::Bits16 => 2,
-        Mode::Bits32 => 4,
-        Mode::Bits64 => 8,
-    }
-}
-
 fn code_bytes(mode: Mode, size: CodeSize) -> u8
     ensures { result ≡ code_bytes mode size }
 {
     match size {
-        CodeSize::Unknown => mode_bytes(mode),
+        CodeSize::Unknown => mode.bytes(),
         CodeSize::Code16 => 2,
         CodeSize::Code32 => 4,
         CodeSize::Code64 => 8,
@@ -76,7 +60,7 @@ pub(crate) fn address_bytes(mode: Mode, instruction: &Instruction) -> u8
 pub(crate) fn in_range(mode: Mode, range: RegisterRange, register: Register) -> bool
     ensures { result ≡ in_range mode range register.number }
 {
-    let last = if !is64(mode) && range.hi as u16 > range.lo as u16 + 7 {
+    let last = if !mode.is64() && range.hi as u16 > range.lo as u16 + 7 {
         range.lo as u16 + 7
     } else {
         range.hi as u16

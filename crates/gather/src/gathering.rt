@@ -2,7 +2,6 @@ ghost use Rattle.std.specs.Prelude.{◌≡◌};
 ghost use Rattle.gather.specs.Gathered.{group_number, group_rm, size_66, size_67, is_64, start_flags, start_parts, mode_fault, start, keep_first, place_step, in_order, gathered};
 ghost use Rattle.gather.specs.Laws.{OneByteExactlyWhereOneStands};
 
-use super::address::is64;
 use super::operand::op_step;
 use super::parts::{Displ, HeadFlags, Imm, Parts, RmPart};
 use fault::{EncodeFault, EncodingFault, OperandFault};
@@ -115,7 +114,7 @@ impl Gathering {
         Gathering {
             parts: start_parts(mode, &record.raw),
             fault: mode_fault(
-                is64(mode),
+                mode.is64(),
                 flags.has(Flag::Bit16Or32),
                 flags.has(Flag::Bit64),
             ),

@@ -2,7 +2,7 @@
 ghost use Rattle.std.specs.Prelude.{◌≡◌};
 ghost use Rattle.gather.specs.Memory.{address_bank, is_rip, index_bank, base_allowed, index_allowed, checked_of, mem_checked, rip_part, rip_mem, displ_checked, offset_mem, sized_out, displ_out, out_mode, out_displ, bank_number, low3_or, bit3, bit4, wants_sib, address_part, stack_left, is_wrong, address_answer, address_of, based_mem, is_bare, ranged_mem, mem};
 
-use super::address::{in_range, is64};
+use super::address::in_range;
 use super::parts::{Displ, RmPart, Sib};
 use super::refusal::Refusal;
 use fault::OperandFault;
@@ -92,7 +92,7 @@ fn mem_checked(
 ) -> Result<(), Refusal>
     ensures { result ≡ mem_checked mode bytes vsib instruction.now }
 {
-    let wide = !is64(mode) && bytes == 8;
+    let wide = !mode.is64() && bytes == 8;
     let base = base_allowed(mode, bytes, instruction.memory.base);
     let index = index_allowed(mode, bytes, vsib, instruction.memory.index);
     checked(wide, base, index, instruction.memory_displ_size() == 2)
@@ -127,7 +127,7 @@ fn rip_mem(mode: Mode, must_use_sib: bool, instruction: &Instruction) -> Result<
     if instruction.memory.scale as u8 != 0 {
         return Err(Refusal::blank(OperandFault::RipScale));
     }
-    if !is64(mode) {
+    if !mode.is64() {
         return Err(Refusal::blank(OperandFault::RipOutside64));
     }
     if must_use_sib {
@@ -163,7 +163,7 @@ fn offset_mem(
         return Err(Refusal::blank(OperandFault::VsibOffsetOnly));
     }
     let displ = Displ::Size4((displ % 0x1_0000_0000) as u32);
-    if is64(mode) || scale != 0 || must_use_sib {
+    if mode.is64() || scale != 0 || must_use_sib {
         let sib = Sib {
             scale,
             index: 4,

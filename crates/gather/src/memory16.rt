@@ -2,7 +2,6 @@
 ghost use Rattle.std.specs.Prelude.{◌≡◌};
 ghost use Rattle.gather.specs.Memory16.{rm16, offset16, far16, one16, sized16, based16, mem16};
 
-use super::address::is64;
 use super::parts::{Displ, RmPart};
 use super::refusal::Refusal;
 use fault::OperandFault;
@@ -109,7 +108,7 @@ pub(crate) fn mem16<P: Policy>(
 ) -> Result<RmPart, Refusal>
     ensures { result ≡ mem16 (P.spread policy.now «record».now broadcast) mode instruction.now }
 {
-    if is64(mode) {
+    if mode.is64() {
         return Err(Refusal::blank(OperandFault::Address16In64));
     }
     let base = instruction.memory.base.number;

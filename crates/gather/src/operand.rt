@@ -4,7 +4,7 @@ ghost use Rattle.gather.specs.Steps.{broadcasts, mem_sized, memory_step, registe
 ghost use Rattle.gather.specs.Registers.{ranged_register, register_operand};
 
 use super::absolute::{Offset, OffsetRefusal, absolute};
-use super::address::{address_bytes, mode_bytes};
+use super::address::address_bytes;
 use super::immediate::{Branch, branch_operand, byte_operand, expecting, wide_operand};
 use super::memory::mem;
 use super::memory16::mem16;
@@ -173,7 +173,7 @@ fn rm_memory<P: Policy>(
 {
     let broadcast = broadcasts(record, instruction);
     let bytes = address_bytes(mode, instruction);
-    let p67 = bytes != mode_bytes(mode);
+    let p67 = bytes != mode.bytes();
     let part = mem_sized(
         policy,
         record,

@@ -3,7 +3,7 @@ use Rattle.std.specs.Prelude.{ℕ, ◌+◌, ◌*◌, ◌%◌, Bool, cond, ◌&&�
 use Rattle.std.specs.Int.{w8, w32, w64}
 use Rattle.std.proofs.Common.{to_z, of_z}
 use Rattle.machine.specs.declared.mode.Mode.{Mode}
-use Rattle.gather.specs.Address.{is64}
+use Rattle.machine.specs.Modes.{is64}
 use Rattle.record.specs.declared.op.RegisterRange.{RegisterRange}
 use Rattle.fields.specs.declared.cut.Cut.{Cut}
 use Rattle.fields.specs.declared.lead.Lead.{Lead}

@@ -6,7 +6,7 @@ use Rattle.machine.specs.declared.code_size.CodeSize.{CodeSize}
 use Rattle.machine.specs.declared.code_size.CodeSize.TheVariants.{Unknown, Code16, Code32, Code64}
 use Rattle.machine.specs.declared.mode.Mode.{Mode}
 use Rattle.machine.specs.declared.mode.Mode.TheVariants.{Bits16, Bits32, Bits64}
-use Rattle.gather.specs.Address.{is64, mode_bytes}
+use Rattle.machine.specs.Modes.{is64, mode_bytes}
 use Rattle.instruction.specs.declared.made.Instruction.{Instruction}
 use Rattle.instruction.specs.Getters.{displ_bytes}
 use Rattle.record.specs.declared.op.RegisterRange.{RegisterRange}

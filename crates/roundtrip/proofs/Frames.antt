@@ -5,7 +5,7 @@ use Rattle.std.proofs.lemmas.Bool.Decides.{nat_tests}
 use Rattle.fault.specs.declared.operand.OperandFault.TheVariants as F
 use Rattle.machine.specs.declared.mode.Mode.{Mode}
 use Rattle.machine.specs.declared.op_kind.OpKind.{OpKind}
-use Rattle.gather.specs.Address.{is64}
+use Rattle.machine.specs.Modes.{is64}
 use Rattle.machine.specs.OpKinds.{kind_number}
 use Rattle.instruction.specs.declared.made.Instruction.{Instruction}
 use Rattle.instruction.specs.Getters.{imm64, low8}

@@ -5,7 +5,7 @@ use Rattle.std.proofs.lemmas.Bool.Decides.{nat_tests}
 use Rattle.machine.specs.declared.mode.Mode.{Mode}
 use Rattle.machine.specs.declared.scale.Scale.{Scale}
 use Rattle.machine.specs.declared.scale.Scale.TheVariants as Scales
-use Rattle.gather.specs.Address.{is64}
+use Rattle.machine.specs.Modes.{is64}
 use Rattle.machine.specs.Scales.{scale_number}
 use Rattle.instruction.specs.declared.made.Instruction.{Instruction}
 use Rattle.instruction.specs.Getters.{displ_bytes}

@@ -2,7 +2,7 @@
 use Rattle.std.proofs.Common.{◌≡◌, ℕ, ◌+◌, ◌/◌, ◌%◌, ◌<◌, Bool, true, false, cond, not, ◌||◌, eqb, ℤ, is_some, Some, Option, refl, ap, ◌∙◌, arith}
 use Rattle.std.proofs.lemmas.Bool.Decides.{nat_tests}
 use Rattle.machine.specs.declared.mode.Mode.{Mode}
-use Rattle.gather.specs.Address.{is64, mode_bytes}
+use Rattle.machine.specs.Modes.{is64, mode_bytes}
 use Rattle.machine.specs.Scales.{scale_number}
 use Rattle.instruction.specs.declared.made.Instruction.{Instruction}
 use Rattle.record.specs.declared.op.RegisterRange.{RegisterRange}

@@ -22,7 +22,8 @@ use Rattle.gather.specs.declared.parts.RmPart.{RmPart}
 use Rattle.gather.specs.declared.refusal.Refusal.{Refusal}
 use Rattle.gather.specs.declared.register.RegPart.{RegPart}
 use Rattle.gather.specs.Absolute.{absolute}
-use Rattle.gather.specs.Address.{address_bytes, mode_bytes, in_range}
+use Rattle.machine.specs.Modes.{mode_bytes}
+use Rattle.gather.specs.Address.{address_bytes, in_range}
 use Rattle.gather.specs.Immediates.{byte_operand, branch_of, same_kind}
 use Rattle.gather.specs.Registers.{is_register, is_memory, ranged_register, register_operand, reg_part}
 use Rattle.gather.specs.Steps.{Spread, op_step, rm_memory, register_step, memory_step, offset_step, imm_step, branch_step, fixed_step, fixed_told, mem_only, faulty, with_rm, with_flags, with_imm, addressing, put_rm_register, put_reg, put_embedded, put_vvvv, put_offset, put_branch, mem_sized, broadcasts}
