@@ -13,7 +13,7 @@ use Rattle.machine.specs.OpKinds.{kind_number}
 use Rattle.machine.specs.Opmasks.{opmask_number}
 use Rattle.machine.specs.Roundings.{rounding_number}
 use Rattle.machine.specs.Scales.{scale_number}
-use Rattle.machine.proofs.Registered.{register_there}
+use Rattle.machine.specs.Registered.{register_there}
 use Rattle.instruction.specs.Fields.{segment_or_none}
 use Rattle.instruction.specs.Making.{or_field, size_made, kind_made, scale_made, opmask_made, rounding_made, register_made, segment_made, MadeBack}
 

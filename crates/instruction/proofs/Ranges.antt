@@ -1,5 +1,6 @@
 -- Numbers make an instruction exactly when each is in its range.
-use Rattle.std.proofs.Common.{◌≡◌, ℕ, Bool, true, false, cond, ◌&&◌, ◌||◌, eqb, leb, is_ok, Some, None, Ok, refl, ◌∙◌}
+use Rattle.std.proofs.Common.{◌≡◌, ℕ, Bool, true, false, cond, ◌&&◌, ◌||◌, eqb, leb, is_ok, Some, None, Ok, Option, Result, refl, ◌∙◌}
+use Rattle.fault.specs.declared.making.MakingFault.{MakingFault}
 use Rattle.machine.specs.CodeSizes.{size_named}
 use Rattle.machine.specs.OpKinds.{kind_named}
 use Rattle.machine.specs.Opmasks.{opmask_named}
@@ -7,11 +8,11 @@ use Rattle.machine.specs.Registers.{register_of}
 use Rattle.machine.specs.Roundings.{rounding_named}
 use Rattle.machine.specs.Scales.{scale_named}
 use Rattle.machine.specs.Segments.{segment_named}
-use Rattle.machine.proofs.Registered.{register_within}
+use Rattle.machine.specs.Registered.{register_within}
 use Rattle.machine.proofs.Within.{size_within, kind_within, rounding_within, segment_within, scale_within, opmask_within}
 use Rattle.instruction.specs.declared.raw.RawInstruction.{RawInstruction}
 use Rattle.instruction.specs.Fields.{segment_known, memory_known, kinds_known, registers_known, evex_known}
-use Rattle.instruction.specs.Making.{or_field, then, size_made, kind_made, scale_made, opmask_made, rounding_made, register_made, segment_made, prefixes_made, memory_made, kinds_made, registers_made, evex_made, MadeWhereInRange}
+use Rattle.instruction.specs.Making.{or_field, then, size_made, kind_made, scale_made, opmask_made, rounding_made, register_made, segment_made, prefixes_made, memory_made, four_made, kinds_made, registers_made, evex_made, MadeWhereInRange}
 use Rattle.instruction.proofs.Leaves.{field_test, then_told, then_last}
 
 size_test : (n : ℕ) → is_ok (size_made n) ≡ leb n 3
@@ -55,19 +56,12 @@ memory_test i =
     then_told (register_made i.index) _ (leb i.index 180) _ (register_test i.index) (λ x.
     then_last (scale_made i.scale) _ (leb i.scale 3) (scale_test i.scale) (λ s. refl)))
 
-kinds_test : (i : RawInstruction) → is_ok (kinds_made i) ≡ kinds_known i
-kinds_test i =
-    then_told (kind_made i.kind0) _ (leb i.kind0 24) _ (kind_test i.kind0) (λ a.
-    then_told (kind_made i.kind1) _ (leb i.kind1 24) _ (kind_test i.kind1) (λ b.
-    then_told (kind_made i.kind2) _ (leb i.kind2 24) _ (kind_test i.kind2) (λ c.
-    then_last (kind_made i.kind3) _ (leb i.kind3 24) (kind_test i.kind3) (λ d. refl))))
-
-registers_test : (i : RawInstruction) → is_ok (registers_made i) ≡ registers_known i
-registers_test i =
-    then_told (register_made i.reg0) _ (leb i.reg0 180) _ (register_test i.reg0) (λ a.
-    then_told (register_made i.reg1) _ (leb i.reg1 180) _ (register_test i.reg1) (λ b.
-    then_told (register_made i.reg2) _ (leb i.reg2 180) _ (register_test i.reg2) (λ c.
-    then_last (register_made i.reg3) _ (leb i.reg3 180) (register_test i.reg3) (λ d. refl))))
+four_test : {X : Type 0} (made : ℕ → Result X MakingFault) (known : ℕ → Bool) → ((n : ℕ) → is_ok (made n) ≡ known n) → (a b c d : ℕ) → is_ok (four_made made a b c d) ≡ (known a && (known b && (known c && known d)))
+four_test made known test a b c d =
+    then_told (made a) _ (known a) _ (test a) (λ x.
+    then_told (made b) _ (known b) _ (test b) (λ y.
+    then_told (made c) _ (known c) _ (test c) (λ z.
+    then_last (made d) _ (known d) (test d) (λ w. refl))))
 
 evex_test : (i : RawInstruction) → is_ok (evex_made i) ≡ evex_known i
 evex_test i =
@@ -79,6 +73,6 @@ made_where_in_range i =
     then_told (size_made i.code_size) _ (leb i.code_size 3) _ (size_test i.code_size) (λ s.
     then_told (prefixes_made i) _ (segment_known i.segment) _ (prefixes_test i) (λ p.
     then_told (memory_made i) _ (memory_known i) _ (memory_test i) (λ m.
-    then_told (kinds_made i) _ (kinds_known i) _ (kinds_test i) (λ k.
-    then_told (registers_made i) _ (registers_known i) _ (registers_test i) (λ r.
+    then_told (kinds_made i) _ (kinds_known i) _ (four_test kind_made (λ n. leb n 24) kind_test i.kind0 i.kind1 i.kind2 i.kind3) (λ k.
+    then_told (registers_made i) _ (registers_known i) _ (four_test register_made (λ n. leb n 180) register_test i.reg0 i.reg1 i.reg2 i.reg3) (λ r.
     then_last (evex_made i) _ (evex_known i) (evex_test i) (λ e. refl))))))

@@ -16,15 +16,14 @@ use Rattle.machine.specs.Registers.{register_of}
 use Rattle.machine.specs.Roundings.{rounding_number, roundings}
 use Rattle.machine.specs.Scales.{scale_number, scales}
 use Rattle.machine.specs.Segments.{segment_number, segments, segment_named}
-use Rattle.machine.proofs.Registered.{register_back}
+use Rattle.machine.specs.Registered.{register_back}
 use Rattle.instruction.specs.declared.made.EvexFields.{EvexFields}
 use Rattle.instruction.specs.declared.made.MemoryFields.{MemoryFields}
-use Rattle.instruction.specs.declared.made.OperandKinds.{OperandKinds}
-use Rattle.instruction.specs.declared.made.OperandRegisters.{OperandRegisters}
+use Rattle.instruction.specs.declared.made.FirstFour.{FirstFour}
 use Rattle.instruction.specs.declared.made.PrefixFields.{PrefixFields}
 use Rattle.instruction.specs.declared.raw.RawInstruction.{RawInstruction}
 use Rattle.instruction.specs.Fields.{segment_or_none, raw_of}
-use Rattle.instruction.specs.Making.{or_field, then, size_made, kind_made, scale_made, opmask_made, rounding_made, register_made, segment_made, prefixes_made, memory_made, kinds_made, registers_made, evex_made, MadeThere}
+use Rattle.instruction.specs.Making.{or_field, then, size_made, kind_made, scale_made, opmask_made, rounding_made, register_made, segment_made, prefixes_made, memory_made, four_made, kinds_made, registers_made, evex_made, MadeThere}
 use Rattle.instruction.proofs.Leaves.{field_some, field_there, then_ok}
 
 same_ok : {X : Type 0} (x y : X) → ◌≡◌ {A = Result X MakingFault} (Ok x) (Ok y) → x ≡ y
@@ -87,29 +86,14 @@ memory_there i m e =
     let s = sym (same_ok _ m c.2) in
     (ap (λ (x : MemoryFields). x.base.number) s ∙ number_there i.base a.0 a.1, ap (λ (x : MemoryFields). x.index.number) s ∙ number_there i.index b.0 b.1, ap (λ (x : MemoryFields). scale_number x.scale) s ∙ scale_there i.scale c.0 c.1, ap (λ (x : MemoryFields). x.displ_size) s)
 
-abbrev KindsOf : OperandKinds → RawInstruction → Type 0
-KindsOf k i = (kind_number k.op0 ≡ i.kind0) × (kind_number k.op1 ≡ i.kind1) × (kind_number k.op2 ≡ i.kind2) × (kind_number k.op3 ≡ i.kind3)
-
-kinds_there : (i : RawInstruction) (k : OperandKinds) → kinds_made i ≡ Ok k → KindsOf k i
-kinds_there i k e =
-    let a = then_ok (kind_made i.kind0) _ k e in
-    let b = then_ok (kind_made i.kind1) _ k a.2 in
-    let c = then_ok (kind_made i.kind2) _ k b.2 in
-    let d = then_ok (kind_made i.kind3) _ k c.2 in
-    let s = sym (same_ok _ k d.2) in
-    (ap (λ (x : OperandKinds). kind_number x.op0) s ∙ kind_there i.kind0 a.0 a.1, ap (λ (x : OperandKinds). kind_number x.op1) s ∙ kind_there i.kind1 b.0 b.1, ap (λ (x : OperandKinds). kind_number x.op2) s ∙ kind_there i.kind2 c.0 c.1, ap (λ (x : OperandKinds). kind_number x.op3) s ∙ kind_there i.kind3 d.0 d.1)
-
-abbrev RegistersOf : OperandRegisters → RawInstruction → Type 0
-RegistersOf r i = (r.op0.number ≡ i.reg0) × (r.op1.number ≡ i.reg1) × (r.op2.number ≡ i.reg2) × (r.op3.number ≡ i.reg3)
-
-registers_there : (i : RawInstruction) (r : OperandRegisters) → registers_made i ≡ Ok r → RegistersOf r i
-registers_there i r e =
-    let a = then_ok (register_made i.reg0) _ r e in
-    let b = then_ok (register_made i.reg1) _ r a.2 in
-    let c = then_ok (register_made i.reg2) _ r b.2 in
-    let d = then_ok (register_made i.reg3) _ r c.2 in
-    let s = sym (same_ok _ r d.2) in
-    (ap (λ (x : OperandRegisters). x.op0.number) s ∙ number_there i.reg0 a.0 a.1, ap (λ (x : OperandRegisters). x.op1.number) s ∙ number_there i.reg1 b.0 b.1, ap (λ (x : OperandRegisters). x.op2.number) s ∙ number_there i.reg2 c.0 c.1, ap (λ (x : OperandRegisters). x.op3.number) s ∙ number_there i.reg3 d.0 d.1)
+four_there : {X : Type 0} (code : X → ℕ) (made : ℕ → Result X MakingFault) → ((n : ℕ) (x : X) → made n ≡ Ok x → code x ≡ n) → (a b c d : ℕ) (v : FirstFour X) → four_made made a b c d ≡ Ok v → (code v.op0 ≡ a) × (code v.op1 ≡ b) × (code v.op2 ≡ c) × (code v.op3 ≡ d)
+four_there {X = X} code made there a b c d v e =
+    let p = then_ok (made a) _ v e in
+    let q = then_ok (made b) _ v p.2 in
+    let r = then_ok (made c) _ v q.2 in
+    let t = then_ok (made d) _ v r.2 in
+    let s = sym (same_ok _ v t.2) in
+    (ap (λ (x : FirstFour X). code x.op0) s ∙ there a p.0 p.1, ap (λ (x : FirstFour X). code x.op1) s ∙ there b q.0 q.1, ap (λ (x : FirstFour X). code x.op2) s ∙ there c r.0 r.1, ap (λ (x : FirstFour X). code x.op3) s ∙ there d t.0 t.1)
 
 abbrev EvexOf : EvexFields → RawInstruction → Type 0
 EvexOf v i = (opmask_number v.opmask ≡ i.opmask) × (v.zeroing ≡ i.zeroing) × (v.broadcast ≡ i.broadcast) × (v.sae ≡ i.sae) × (rounding_number v.rounding ≡ i.rounding)
@@ -131,8 +115,8 @@ made_there i x e =
     let g = then_ok (evex_made i) _ x f.2 in
     let p = prefixes_there i b.0 b.1 in
     let m = memory_there i c.0 c.1 in
-    let k = kinds_there i d.0 d.1 in
-    let r = registers_there i f.0 f.1 in
+    let k = four_there kind_number kind_made kind_there i.kind0 i.kind1 i.kind2 i.kind3 d.0 d.1 in
+    let r = four_there (λ x. x.number) register_made number_there i.reg0 i.reg1 i.reg2 i.reg3 f.0 f.1 in
     let v = evex_there i g.0 g.1 in
     let z = size_there i.code_size a.0 a.1 in
     ap raw_of (sym (same_ok _ x g.2))

@@ -18,8 +18,7 @@ use Rattle.machine.specs.declared.segment.Segment.{Segment}
 use Rattle.instruction.specs.declared.made.EvexFields.{EvexFields}
 use Rattle.instruction.specs.declared.made.Instruction.{Instruction}
 use Rattle.instruction.specs.declared.made.MemoryFields.{MemoryFields}
-use Rattle.instruction.specs.declared.made.OperandKinds.{OperandKinds}
-use Rattle.instruction.specs.declared.made.OperandRegisters.{OperandRegisters}
+use Rattle.instruction.specs.declared.made.FirstFour.{FirstFour}
 use Rattle.instruction.specs.declared.made.PrefixFields.{PrefixFields}
 use Rattle.instruction.specs.declared.raw.RawInstruction.{RawInstruction}
 use Rattle.instruction.specs.Fields.{in_range, raw_of}
@@ -66,21 +65,20 @@ memory_made i =
     then (scale_made i.scale) (λ s.
     Ok record { base = b; index = x; scale = s; displ_size = i.displ_size })))
 
-abbrev pub kinds_made : RawInstruction → Result OperandKinds MakingFault
-kinds_made i =
-    then (kind_made i.kind0) (λ a.
-    then (kind_made i.kind1) (λ b.
-    then (kind_made i.kind2) (λ c.
-    then (kind_made i.kind3) (λ d.
+-- the values of four numbers, by what makes one
+abbrev pub four_made : {X : Type 0} → (ℕ → Result X MakingFault) → ℕ → ℕ → ℕ → ℕ → Result (FirstFour X) MakingFault
+four_made made a b c d =
+    then (made a) (λ a.
+    then (made b) (λ b.
+    then (made c) (λ c.
+    then (made d) (λ d.
     Ok record { op0 = a; op1 = b; op2 = c; op3 = d }))))
 
-abbrev pub registers_made : RawInstruction → Result OperandRegisters MakingFault
-registers_made i =
-    then (register_made i.reg0) (λ a.
-    then (register_made i.reg1) (λ b.
-    then (register_made i.reg2) (λ c.
-    then (register_made i.reg3) (λ d.
-    Ok record { op0 = a; op1 = b; op2 = c; op3 = d }))))
+abbrev pub kinds_made : RawInstruction → Result (FirstFour OpKind) MakingFault
+kinds_made i = four_made kind_made i.kind0 i.kind1 i.kind2 i.kind3
+
+abbrev pub registers_made : RawInstruction → Result (FirstFour Register) MakingFault
+registers_made i = four_made register_made i.reg0 i.reg1 i.reg2 i.reg3
 
 abbrev pub evex_made : RawInstruction → Result EvexFields MakingFault
 evex_made i =

@@ -7,6 +7,6 @@ mod making;
 mod raw;
 
 pub use made::{
-    EvexFields, Instruction, MemoryFields, OperandKinds, OperandRegisters, PrefixFields,
+    EvexFields, FirstFour, Instruction, MemoryFields, OperandKinds, OperandRegisters, PrefixFields,
 };
 pub use raw::RawInstruction;

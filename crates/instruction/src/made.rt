@@ -1,22 +1,17 @@
 use machine::{CodeSize, OpKind, Opmask, Register, RoundingControl, Scale, Segment};
 
-// The kinds of the first four operands.
+// What belongs to each of the first four operands.
 #[derive(Clone, Copy)]
-pub struct OperandKinds {
-    pub op0: OpKind,
-    pub op1: OpKind,
-    pub op2: OpKind,
-    pub op3: OpKind,
+pub struct FirstFour<T> {
+    pub op0: T,
+    pub op1: T,
+    pub op2: T,
+    pub op3: T,
 }
 
-// The registers of the first four operands.
-#[derive(Clone, Copy)]
-pub struct OperandRegisters {
-    pub op0: Register,
-    pub op1: Register,
-    pub op2: Register,
-    pub op3: Register,
-}
+pub type OperandKinds = FirstFour<OpKind>;
+
+pub type OperandRegisters = FirstFour<Register>;
 
 // The address of a memory operand, but for its displacement: base, index, scale, and the displacement's size as the
 // source keeps it.

@@ -1,76 +1,34 @@
 ghost use Rattle.std.specs.Prelude.{◌≡◌};
-ghost use Rattle.instruction.specs.Making.{or_field, size_made, kind_made, scale_made, opmask_made, rounding_made, register_made, segment_made, prefixes_made, memory_made, kinds_made, registers_made, evex_made, instruction_of, MadeWhereInRange, MadeThere, MadeBack};
+ghost use Rattle.instruction.specs.Making.{or_field, size_made, kind_made, scale_made, opmask_made, rounding_made, register_made, segment_made, prefixes_made, memory_made, four_made, evex_made, instruction_of, MadeWhereInRange, MadeThere, MadeBack};
 
-use super::made::{
-    EvexFields, Instruction, MemoryFields, OperandKinds, OperandRegisters, PrefixFields,
-};
+use super::made::{EvexFields, FirstFour, Instruction, MemoryFields, PrefixFields};
 use super::raw::RawInstruction;
 use fault::MakingFault;
-use machine::{Code, CodeSize, OpKind, Opmask, Register, RoundingControl, Scale, Segment};
+use machine::{Code, Segment};
 
 // the value of a number, or refusal 61 where it has none
-fn known<T>(value: Option<T>) -> Result<T, MakingFault>
-    ensures { result ≡ or_field value }
+fn known<T: Code>(number: u8) -> Result<T, MakingFault>
+    ensures { result ≡ or_field (T.named number) }
 {
-    match value {
-        Some(x) => Ok(x),
-        None => Err(MakingFault::Field),
-    }
+    T::from_number(number).ok_or(MakingFault::Field)
 }
 
-fn known_code_size(number: u8) -> Result<CodeSize, MakingFault>
-    ensures { result ≡ size_made number }
-{
-    known(CodeSize::from_number(number))
-}
-
-fn known_op_kind(number: u8) -> Result<OpKind, MakingFault>
-    ensures { result ≡ kind_made number }
-{
-    known(OpKind::from_number(number))
-}
-
-fn known_scale(number: u8) -> Result<Scale, MakingFault>
-    ensures { result ≡ scale_made number }
-{
-    known(Scale::from_number(number))
-}
-
-fn known_opmask(number: u8) -> Result<Opmask, MakingFault>
-    ensures { result ≡ opmask_made number }
-{
-    known(Opmask::from_number(number))
-}
-
-fn known_rounding(number: u8) -> Result<RoundingControl, MakingFault>
-    ensures { result ≡ rounding_made number }
-{
-    known(RoundingControl::from_number(number))
-}
-
-fn known_register(number: u8) -> Result<Register, MakingFault>
-    ensures { result ≡ register_made number }
-{
-    known(Register::new(number))
-}
-
+#[tactic(auto, unfolding(crate::specs::Making::segment_made))]
 fn known_segment(number: u8) -> Result<Option<Segment>, MakingFault>
     ensures { result ≡ segment_made number }
 {
     if number == 0 {
         return Ok(None);
     }
-    let segment = known(Segment::from_number(number))?;
-    Ok(Some(segment))
+    Ok(Some(known(number)?))
 }
 
 impl PrefixFields {
     fn new(raw: &RawInstruction) -> Result<PrefixFields, MakingFault>
         ensures { result ≡ prefixes_made raw.now }
     {
-        let segment = known_segment(raw.segment)?;
         Ok(PrefixFields {
-            segment,
+            segment: known_segment(raw.segment)?,
             lock: raw.lock,
             repe: raw.repe,
             repne: raw.repne,
@@ -79,63 +37,51 @@ impl PrefixFields {
 }
 
 impl MemoryFields {
+    #[tactic(auto, unfolding(crate::specs::Making::register_made, crate::specs::Making::scale_made))]
     fn new(raw: &RawInstruction) -> Result<MemoryFields, MakingFault>
         ensures { result ≡ memory_made raw.now }
     {
-        let base = known_register(raw.base)?;
-        let index = known_register(raw.index)?;
-        let scale = known_scale(raw.scale)?;
         Ok(MemoryFields {
-            base,
-            index,
-            scale,
+            base: known(raw.base)?,
+            index: known(raw.index)?,
+            scale: known(raw.scale)?,
             displ_size: raw.displ_size,
         })
     }
 }
 
-impl OperandKinds {
-    fn new(raw: &RawInstruction) -> Result<OperandKinds, MakingFault>
-        ensures { result ≡ kinds_made raw.now }
+impl<T: Code> FirstFour<T> {
+    // the values of four numbers
+    fn new(op0: u8, op1: u8, op2: u8, op3: u8) -> Result<FirstFour<T>, MakingFault>
+        ensures { result ≡ four_made (λ n. or_field (T.named n)) op0 op1 op2 op3 }
     {
-        let op0 = known_op_kind(raw.kind0)?;
-        let op1 = known_op_kind(raw.kind1)?;
-        let op2 = known_op_kind(raw.kind2)?;
-        let op3 = known_op_kind(raw.kind3)?;
-        Ok(OperandKinds { op0, op1, op2, op3 })
-    }
-}
-
-impl OperandRegisters {
-    fn new(raw: &RawInstruction) -> Result<OperandRegisters, MakingFault>
-        ensures { result ≡ registers_made raw.now }
-    {
-        let op0 = known_register(raw.reg0)?;
-        let op1 = known_register(raw.reg1)?;
-        let op2 = known_register(raw.reg2)?;
-        let op3 = known_register(raw.reg3)?;
-        Ok(OperandRegisters { op0, op1, op2, op3 })
+        Ok(FirstFour {
+            op0: known(op0)?,
+            op1: known(op1)?,
+            op2: known(op2)?,
+            op3: known(op3)?,
+        })
     }
 }
 
 impl EvexFields {
+    #[tactic(auto, unfolding(crate::specs::Making::opmask_made, crate::specs::Making::rounding_made))]
     fn new(raw: &RawInstruction) -> Result<EvexFields, MakingFault>
         ensures { result ≡ evex_made raw.now }
     {
-        let opmask = known_opmask(raw.opmask)?;
-        let rounding = known_rounding(raw.rounding)?;
         Ok(EvexFields {
-            opmask,
+            opmask: known(raw.opmask)?,
             zeroing: raw.zeroing,
             broadcast: raw.broadcast,
             sae: raw.sae,
-            rounding,
+            rounding: known(raw.rounding)?,
         })
     }
 }
 
 impl Instruction {
     // an instruction of these fields, or refusal 61 where one is out of range
+    #[tactic(auto, using(crate::proofs::Ranges::made_where_in_range, crate::proofs::There::made_there, crate::proofs::Back::made_back))]
     pub fn new(raw: &RawInstruction) -> Result<Instruction, MakingFault>
         ensures value { result ≡ instruction_of raw.now }
         ensures where_in_range { MadeWhereInRange }
@@ -145,14 +91,15 @@ impl Instruction {
         Instruction::made(raw)
     }
 
+    #[tactic(auto, unfolding(crate::specs::Making::size_made, crate::specs::Making::kind_made, crate::specs::Making::register_made))]
     fn made(raw: &RawInstruction) -> Result<Instruction, MakingFault>
         ensures { result ≡ instruction_of raw.now }
     {
-        let code_size = known_code_size(raw.code_size)?;
+        let code_size = known(raw.code_size)?;
         let prefixes = PrefixFields::new(raw)?;
         let memory = MemoryFields::new(raw)?;
-        let kinds = OperandKinds::new(raw)?;
-        let registers = OperandRegisters::new(raw)?;
+        let kinds = FirstFour::new(raw.kind0, raw.kind1, raw.kind2, raw.kind3)?;
+        let registers = FirstFour::new(raw.reg0, raw.reg1, raw.reg2, raw.reg3)?;
         let evex = EvexFields::new(raw)?;
         Ok(Instruction {
             code_size,

@@ -1,5 +1,4 @@
 pub mod Banked
 pub mod ByteCodes
 pub mod Named
-pub mod Registered
 pub mod Within

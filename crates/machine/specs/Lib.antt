@@ -2,13 +2,14 @@ pub mod Banks
 pub mod Bytes
 pub mod CodeSizes
 pub mod Codes
+pub mod Look
 pub mod Modes
 pub mod Names
 pub mod OpKinds
 pub mod Opmasks
 pub mod Places
+pub mod Registered
 pub mod Registers
 pub mod Roundings
 pub mod Scales
 pub mod Segments
-pub mod Look

@@ -2,8 +2,10 @@ ghost use Rattle.std.specs.Prelude.{◌≡◌, ◌<◌, [], MatchOption, slice_i
 ghost use Rattle.machine.specs.Banks.{bank_of, place_in, bank_index, BankThere};
 ghost use Rattle.machine.specs.Names.{names, NameThere, NameBack};
 ghost use Rattle.machine.specs.Registers.{register_of, register_named, RegisterThere, RegisterBack};
+ghost use Rattle.machine.specs.Registered.{register_found, register_back};
 
 use super::bank::Bank;
+use super::code::Code;
 use super::names::{name_of, number_of};
 use super::register::Register;
 
@@ -78,5 +80,23 @@ impl Register {
         ensures there { BankThere }
     {
         place_in(self.bank(), self.number)
+    }
+}
+
+impl Code for Register {
+    ghost code = { λ x. x.number };
+
+    ghost named = { λ n. register_of n };
+
+    ghost back = { register_found };
+
+    ghost there = { register_back };
+
+    fn number(self) -> u8 {
+        self.number
+    }
+
+    fn from_number(number: u8) -> Option<Register> {
+        Register::new(number)
     }
 }

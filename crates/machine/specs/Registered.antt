@@ -18,6 +18,9 @@ pub register_there : (a : Register) → Some a ≡ register_of a.number
 unfolding register_of
 register_there a = told_some a (leb a.number 180) refl (le-leb a.number 180 a.known)
 
+pub register_found : (a : Register) → register_of a.number ≡ Some a
+register_found a = sym (register_there a)
+
 told_none : (n : ℕ) (t : Bool) (e : leb n 180 ≡ t) → t ≡ false → None ≡ register_told n t e
 told_none n true e f = grind arith
 told_none n false e f = refl
