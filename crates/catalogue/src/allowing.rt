@@ -1,15 +1,9 @@
-ghost use Rattle.std.specs.Prelude.{◌≡◌, min, take, ◌==◌};
+ghost use Rattle.std.specs.Prelude.{◌≡◌, min, take};
 ghost use Rattle.catalogue.specs.Meaning.{allowed_of};
 
 use super::allow_list::AllowList;
 use super::catalogue::Catalogue;
 use record::Record;
-
-fn same(a: u16, b: u16) -> bool
-    ensures { result ≡ (a == b) }
-{
-    a == b
-}
 
 impl<C: Catalogue> AllowList<C> {
     // lets the first `count` of the numbers through, at most 32
@@ -31,11 +25,10 @@ impl<C: Catalogue> Catalogue for AllowList<C> {
     ghost means = { λ s n. allowed_of (take s.count s.numbers) n (C.Catalogue.means s.inner n) };
 
     fn get(&self, number: u16) -> Option<Record> {
-        for i in 0..self.count {
-            if same(self.numbers[i as usize], number) {
-                return self.inner.get(number);
-            }
+        if self.numbers[..self.count as usize].contains(&number) {
+            self.inner.get(number)
+        } else {
+            None
         }
-        None
     }
 }

@@ -3,8 +3,7 @@ ghost use Rattle.catalogue.specs.Built.{built_rows};
 ghost use Rattle.catalogue.specs.Meaning.{row_of, TenSoundRecords};
 
 use super::catalogue::Catalogue;
-use super::rows::row;
-use super::table::rows;
+use super::table::row;
 use record::Record;
 
 // The built-in table. Its rows are proved sound, so that none is judged when it is asked for.
@@ -15,27 +14,18 @@ impl Catalogue for BuiltIn {
     ghost means = { λ s n. row_of built_rows n };
 
     fn get(&self, number: u16) -> Option<Record> {
-        let rows = rows();
-        let at = number as usize;
-        if at >= rows.len() {
-            return None;
-        }
-        Some(Record { raw: row(rows, at) })
+        let raw = row(number)?;
+        Some(Record { raw })
     }
 }
 
 impl BuiltIn {
     // how many records there are, each of them sound
+    #[tactic(auto, using(crate::proofs::Rowed::ten_sound_records))]
     pub fn count(self) -> u16
         ensures value { result ≡ 10 }
         ensures sound { TenSoundRecords }
     {
-        ten()
+        10
     }
-}
-
-fn ten() -> u16
-    ensures { result ≡ 10 }
-{
-    10
 }

@@ -1,4 +1,3 @@
-ghost use Rattle.std.specs.Prelude.{◌≡◌, ◌<◌, length, slice_index_or};
 ghost use Rattle.catalogue.specs.Meaning.{row_of};
 
 use super::catalogue::Catalogue;
@@ -9,25 +8,12 @@ pub struct Rows<'a> {
     pub rows: &'a [RawRecord],
 }
 
-// the row at a place
-pub(crate) fn row(rows: &[RawRecord], at: usize) -> RawRecord
-    requires { at < length rows.now }
-    ensures { result ≡ slice_index_or rows.now at result }
-{
-    rows[at]
-}
-
 impl<'a> Catalogue for Rows<'a> {
     ghost means = { λ s n. row_of s.rows.now n };
 
+    #[tactic(auto, unfolding(crate::specs::Meaning::row_of))]
     fn get(&self, number: u16) -> Option<Record> {
-        let at = number as usize;
-        if at >= self.rows.len() {
-            return None;
-        }
-        match Record::new(row(self.rows, at)) {
-            Ok(record) => Some(record),
-            Err(_) => None,
-        }
+        let raw = self.rows.get(number as usize)?;
+        Record::new(*raw).ok()
     }
 }

@@ -1,5 +1,5 @@
 // The built-in table: ten records, by number.
-ghost use Rattle.std.specs.Prelude.{◌≡◌};
+ghost use Rattle.std.specs.Prelude.{◌≡◌, slice_get};
 ghost use Rattle.catalogue.specs.Built.{built_rows};
 
 use machine::{CodeSize, OpKind};
@@ -256,9 +256,15 @@ static TABLE: [RawRecord; 10] = [
     },
 ];
 
-// the rows of the table
-pub(crate) fn rows() -> &'static [RawRecord]
+fn rows() -> &'static [RawRecord]
     ensures { result.now ≡ built_rows }
 {
     &TABLE
+}
+
+// the row of a number
+pub(crate) fn row(number: u16) -> Option<RawRecord>
+    ensures { result ≡ slice_get built_rows number }
+{
+    rows().get(number as usize).copied()
 }

@@ -2,11 +2,12 @@
 use Rattle.std.proofs.Common.{◌≡◌, ℕ, ◌<◌, Bool, true, false, cond, ◌&&◌, ℤ, pos, negsuc, ◌≤ℤ◌, Some, None, sym, refl, ap, ◌∙◌, arith}
 use Rattle.std.specs.Int.Signed.{le_z, shr_z}
 use Rattle.std.proofs.lemmas.Int.{ints}
-use Rattle.std.proofs.lemmas.Bool.Decides.{nat_tests}
+use Rattle.std.specs.Ordering.{int_eq}
+use Rattle.std.proofs.lemmas.Bool.Decides.{nat_tests, Decides-int_eq}
 use Rattle.policy.specs.Bytes.{byte_of, exact_byte}
-use Rattle.policy.specs.Lowest.{SignedByte, Lowest, lowest, eq_z}
+use Rattle.policy.specs.Lowest.{SignedByte, Lowest, lowest}
 use Rattle.policy.specs.Meanings.{plain_spread, scaled_spread}
-use Rattle.policy.proofs.LowestIs.{eq_z_yes, eq_z_no, lowest_unique}
+use Rattle.policy.proofs.LowestIs.{int_eq_no, lowest_unique}
 use Rattle.policy.specs.Shifts.{shr_times}
 
 in_range : (v : ℤ) → (le_z (negsuc 127) v && le_z v (pos 127)) ≡ true → SignedByte v
@@ -23,12 +24,12 @@ moved v u e s = (omega (arith, ints, s.0), omega (arith, ints, s.1))
 
 -- q is the one number that f can take to d
 module _ (f : ℤ → ℤ) (d q : ℤ) (only : (u : ℤ) → f u ≡ d → q ≡ u) where
-  there : (b : Bool) → eq_z (f q) d ≡ b → SignedByte q → Lowest f d (cond b (Some q) None)
-  there true e s = (s, eq_z_yes (f q) d e, λ u t h. same_le q u (only u h))
-  there false e s = λ u t h. eq_z_no (f q) d e (ap f (only u h) ∙ h)
+  there : (b : Bool) → int_eq (f q) d ≡ b → SignedByte q → Lowest f d (cond b (Some q) None)
+  there true e s = (s, (Decides-int_eq (f q) d).0 e, λ u t h. same_le q u (only u h))
+  there false e s = λ u t h. int_eq_no (f q) d e (ap f (only u h) ∙ h)
 
-  tested : (b : Bool) → (le_z (negsuc 127) q && le_z q (pos 127)) ≡ b → Lowest f d (elim (cond b (Some q) None) [ Some v ↦ cond (eq_z (f v) d) (Some v) None | None ↦ None ])
-  tested true e = there (eq_z (f q) d) refl (in_range q e)
+  tested : (b : Bool) → (le_z (negsuc 127) q && le_z q (pos 127)) ≡ b → Lowest f d (elim (cond b (Some q) None) [ Some v ↦ cond (int_eq (f v) d) (Some v) None | None ↦ None ])
+  tested true e = there (int_eq (f q) d) refl (in_range q e)
   tested false e = λ u t h. out_of_range q e (moved q u (only u h) t)
 
   ranged : f q ≡ d → (b : Bool) → (le_z (negsuc 127) q && le_z q (pos 127)) ≡ b → Lowest f d (cond b (Some q) None)

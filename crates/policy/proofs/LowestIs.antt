@@ -1,14 +1,12 @@
 -- The scan from -128 up finds the lowest signed byte, and no other answer is that.
 use Rattle.std.proofs.Common.{◌≡◌, ℕ, zero, suc, Bool, true, false, cond, ◌⊎◌, ℤ, pos, negsuc, ◌+ℤ◌, ◌≤ℤ◌, ◌<ℤ◌, is_some, Some, None, Option, sym, refl, ap, ◌∙◌, subst, inl, inr, arith}
 use Rattle.std.proofs.lemmas.Int.{ints}
-use Rattle.std.proofs.lemmas.Bool.Decides.{nat_tests}
-use Rattle.policy.specs.Lowest.{SignedByte, Lowest, eq_z, lowest_from, lowest, Reached, ShorteningIsLowest, ShortensWhatIsReached}
+use Rattle.std.specs.Ordering.{int_eq}
+use Rattle.std.proofs.lemmas.Bool.Decides.{nat_tests, Decides-int_eq}
+use Rattle.policy.specs.Lowest.{SignedByte, Lowest, lowest_from, lowest, Reached, ShorteningIsLowest, ShortensWhatIsReached}
 
-pub eq_z_yes : (a b : ℤ) → eq_z a b ≡ true → a ≡ b
-eq_z_yes a b e = grind (arith, ints, nat_tests)
-
-pub eq_z_no : (a b : ℤ) → eq_z a b ≡ false → a ≡ b → ⊥
-eq_z_no a b e p = grind (arith, ints, nat_tests)
+pub int_eq_no : (a b : ℤ) → int_eq a b ≡ false → a ≡ b → ⊥
+int_eq_no a b e p = let q : int_eq a b ≡ true = (Decides-int_eq a b).1 p in grind arith
 
 above : (v u : ℤ) → v ≤ℤ u → (u ≡ v) ⊎ ((v +ℤ pos 1) ≤ℤ u)
 above v u h = grind (arith, ints)
@@ -21,16 +19,16 @@ From k v f d None = (u : ℤ) → v ≤ℤ u → u <ℤ (v +ℤ pos k) → f u �
 from_is : (k : ℕ) (v : ℤ) (f : ℤ → ℤ) (d : ℤ) → From k v f d (lowest_from k f d v)
 unfolding lowest_from
 from_is zero v f d = λ u a b e. omega (arith, ints)
-from_is (suc k) v f d = go (from_is k (v +ℤ pos 1) f d) (eq_z (f v) d) refl
+from_is (suc k) v f d = go (from_is k (v +ℤ pos 1) f d) (int_eq (f v) d) refl
   where
     more : (o : Option ℤ) → (f v ≡ d → ⊥) → From k (v +ℤ pos 1) f d o → From (suc k) v f d o
     more (Some w) n p =
         (omega (arith, ints, p.0), omega (arith, ints, p.1), p.2, λ u a b e. elim (above v u a) [ inl q ↦ elim (n (sym (ap f q) ∙ e)) [ ] | inr q ↦ p.3 u q (omega (arith, ints, b, q)) e ])
     more None n p = λ u a b e. elim (above v u a) [ inl q ↦ n (sym (ap f q) ∙ e) | inr q ↦ p u q (omega (arith, ints, b, q)) e ]
 
-    go : From k (v +ℤ pos 1) f d (lowest_from k f d (v +ℤ pos 1)) → (t : Bool) → eq_z (f v) d ≡ t → From (suc k) v f d (cond t (Some v) (lowest_from k f d (v +ℤ pos 1)))
-    go h true e = (omega (arith, ints), omega (arith, ints), eq_z_yes (f v) d e, λ u a b q. a)
-    go h false e = more (lowest_from k f d (v +ℤ pos 1)) (eq_z_no (f v) d e) h
+    go : From k (v +ℤ pos 1) f d (lowest_from k f d (v +ℤ pos 1)) → (t : Bool) → int_eq (f v) d ≡ t → From (suc k) v f d (cond t (Some v) (lowest_from k f d (v +ℤ pos 1)))
+    go h true e = (omega (arith, ints), omega (arith, ints), (Decides-int_eq (f v) d).0 e, λ u a b q. a)
+    go h false e = more (lowest_from k f d (v +ℤ pos 1)) (int_eq_no (f v) d e) h
 
 small_from : (f : ℤ → ℤ) (d : ℤ) (o : Option ℤ) → From 256 (negsuc 127) f d o → Lowest f d o
 small_from f d (Some w) p = ((p.0, omega (arith, ints, p.1)), p.2, λ u s e. p.3 u s.0 (omega (arith, ints, s.1)) e)

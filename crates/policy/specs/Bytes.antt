@@ -3,7 +3,7 @@ use Rattle.std.specs.Prelude.{ℕ, ◌*◌, ◌%◌, ◌^◌, cond, ◌&&◌, �
 use Rattle.std.specs.Int.Signed.{shr_z}
 use Rattle.std.specs.Int.{w32}
 use Rattle.std.proofs.Common.{to_z, of_z}
-use Rattle.policy.specs.Lowest.{eq_z}
+use Rattle.std.specs.Ordering.{int_eq}
 use Rattle.policy.specs.Meanings.{scaled_spread}
 
 -- the number, where it is a signed byte
@@ -16,4 +16,4 @@ moved_up v k = to_z w32 (of_z w32 v * 2 ^ k % 2 ^ 32)
 
 -- the quotient, where it is a signed byte and leaves no rest
 abbrev pub exact_byte : ℕ → ℤ → Option ℤ
-exact_byte scale d = elim (byte_of (shr_z d scale)) [ Some v ↦ cond (eq_z (scaled_spread scale v) d) (Some v) None | None ↦ None ]
+exact_byte scale d = elim (byte_of (shr_z d scale)) [ Some v ↦ cond (int_eq (scaled_spread scale v) d) (Some v) None | None ↦ None ]

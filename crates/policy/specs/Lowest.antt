@@ -1,4 +1,5 @@
 -- The lowest signed byte that a meaning takes to a displacement.
+use Rattle.std.specs.Ordering.{int_eq}
 use Rattle.std.specs.Prelude.{◌≡◌, ℕ, zero, suc, Bool, true, cond, ◌&&◌, ℤ, pos, negsuc, ◌+ℤ◌, ◌≤ℤ◌, is_some, Some, None, Option, ◌≢◌, int_le}
 
 -- v is a signed byte
@@ -9,14 +10,10 @@ SignedByte v = (negsuc 127 ≤ℤ v) × (v ≤ℤ pos 127)
 abbrev pub Displacement : ℤ → Type 0
 Displacement d = (negsuc 2147483647 ≤ℤ d) × (d ≤ℤ pos 2147483647)
 
--- whether two numbers are the same
-abbrev pub eq_z : ℤ → ℤ → Bool
-eq_z a b = int_le a b && int_le b a
-
 -- the first of the k numbers from v up that f takes to d
 unfoldable pub lowest_from : ℕ → (ℤ → ℤ) → ℤ → ℤ → Option ℤ
 lowest_from zero f d v = None
-lowest_from (suc k) f d v = cond (eq_z (f v) d) (Some v) (lowest_from k f d (v +ℤ pos 1))
+lowest_from (suc k) f d v = cond (int_eq (f v) d) (Some v) (lowest_from k f d (v +ℤ pos 1))
 
 -- the first of the 256 signed bytes from -128 up that f takes to d
 unfoldable pub lowest : (ℤ → ℤ) → ℤ → Option ℤ

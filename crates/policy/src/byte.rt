@@ -5,9 +5,5 @@ ghost use Rattle.policy.specs.Bytes.{byte_of};
 pub fn signed_byte(number: i32) -> Option<i8>
     ensures { result ≡ byte_of number }
 {
-    if number >= -128 && number <= 127 {
-        Some(number as i8)
-    } else {
-        None
-    }
+    i8::try_from(number).ok()
 }

@@ -4,7 +4,7 @@ ghost use Rattle.std.proofs.lemmas.Bool.{cond_both};
 ghost use Rattle.policy.specs.Lowest.{Displacement};
 
 use super::policy::Policy;
-use record::{Head, Record};
+use record::Record;
 
 // Two policies: the first for EVEX records, the second for the rest.
 #[derive(Clone, Copy)]
@@ -17,11 +17,7 @@ pub struct Chooser<E, P> {
 fn has_evex(record: &Record) -> bool
     ensures { result ≡ is_evex «record».now.raw.head }
 {
-    match record.raw.head {
-        Head::Legacy(_) => false,
-        Head::Vex(_) => false,
-        Head::Evex(_) => true,
-    }
+    record.raw.head.is_evex()
 }
 
 impl<E: Policy, P: Policy> Policy for Chooser<E, P> {

@@ -12,6 +12,7 @@ use record::Record;
 pub type PortPolicy = Chooser<Scaled, Plain>;
 
 // the port's own policy, with what holds of shortening under every policy
+#[tactic(auto, using(crate::proofs::LowestIs::shortening_is_lowest, crate::proofs::LowestIs::lowest_reached))]
 pub fn port_policy() -> PortPolicy
     ensures shortening { ShorteningIsLowest }
     ensures reached { ShortensWhatIsReached }

@@ -1,7 +1,7 @@
 ghost use Rattle.std.specs.Prelude.{◌≡◌, ℕ, ◌^◌, ◌<◌};
 ghost use Rattle.std.specs.Int.Signed.{shr_z};
 ghost use Rattle.policy.specs.Bytes.{exact_byte};
-ghost use Rattle.policy.specs.Lowest.{eq_z, lowest};
+ghost use Rattle.policy.specs.Lowest.{lowest};
 ghost use Rattle.policy.specs.Meanings.{scale_of, scaled_spread};
 
 use super::super::byte::signed_byte;
@@ -18,13 +18,6 @@ fn number(record: &Record, broadcast: bool) -> u8
     } else {
         record.raw.n
     }
-}
-
-// whether two numbers are the same
-fn same(a: i32, b: i32) -> bool
-    ensures { result ≡ eq_z a b }
-{
-    a == b
 }
 
 impl Scale {
@@ -64,11 +57,7 @@ impl Scale {
         ensures { result ≡ exact_byte self.value displ }
     {
         let byte = signed_byte(self.quotient(displ))?;
-        if same(self.times(byte), displ) {
-            Some(byte)
-        } else {
-            None
-        }
+        (self.times(byte) == displ).then_some(byte)
     }
 
     // the lowest byte that the scale takes to the displacement
