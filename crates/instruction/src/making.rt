@@ -7,7 +7,7 @@ use fault::MakingFault;
 use machine::{Code, Segment};
 
 // the value of a number, or refusal 61 where it has none
-fn known<T: Code>(number: u8) -> Result<T, MakingFault>
+fn known<T: Code + Drop>(number: u8) -> Result<T, MakingFault>
     ensures { result ≡ or_field (T.named number) }
 {
     T::from_number(number).ok_or(MakingFault::Field)
@@ -50,7 +50,7 @@ impl MemoryFields {
     }
 }
 
-impl<T: Code> FirstFour<T> {
+impl<T: Code + Drop> FirstFour<T> {
     // the values of four numbers
     fn new(op0: u8, op1: u8, op2: u8, op3: u8) -> Result<FirstFour<T>, MakingFault>
         ensures { result ≡ four_made (λ n. or_field (T.named n)) op0 op1 op2 op3 }

@@ -1,7 +1,7 @@
 ghost use Rattle.std.specs.Prelude.{◌≡◌, ℕ, Some, Option};
 
 // A type whose values have numbers: the number of a value and the value of a number, each the other's way back.
-pub trait Code: Copy {
+pub trait Code {
     ghost code: { Self → ℕ };
 
     ghost named: { ℕ → Option Self };
