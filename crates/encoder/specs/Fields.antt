@@ -5,7 +5,7 @@ use Rattle.gather.specs.declared.parts.Displ.TheVariants as D
 use Rattle.gather.specs.declared.parts.Imm.{Imm}
 use Rattle.gather.specs.declared.parts.Imm.TheVariants as I
 use Rattle.gather.specs.declared.parts.Parts.{Parts}
-use Rattle.gather.specs.declared.parts.Sib.{Sib}
+use Rattle.machine.specs.declared.sib.Sib.{Sib}
 
 -- numbers, the lowest byte first
 abbrev pub le2 : ℕ → List ℕ

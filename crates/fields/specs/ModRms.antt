@@ -14,7 +14,7 @@ use Rattle.record.specs.Flags.{has_flag}
 use Rattle.record.specs.Rules.{each, is_evex}
 use Rattle.fields.specs.declared.lead.Lead.{Lead}
 use Rattle.fields.specs.declared.mod_rm.ModRm.{ModRm}
-use Rattle.fields.specs.declared.mod_rm.Sib.{Sib}
+use Rattle.machine.specs.declared.sib.Sib.{Sib}
 use Rattle.fields.specs.Bytes.{then, holding, required, byte_at}
 use Rattle.fields.specs.Registers.{register_there, register_holds}
 

@@ -1,10 +1,4 @@
-// A SIB byte.
-#[derive(Clone, Copy)]
-pub struct Sib {
-    pub scale: u8,
-    pub index: u8,
-    pub base: u8,
-}
+use machine::Sib;
 
 // ModRM with SIB, and where they end.
 #[derive(Clone, Copy)]

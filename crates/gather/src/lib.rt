@@ -14,5 +14,6 @@ mod register;
 mod step;
 
 pub use gathering::{Gathering, gather};
-pub use parts::{Displ, HeadFlags, Imm, Parts, RmPart, Sib};
+pub use machine::Sib;
+pub use parts::{Displ, HeadFlags, Imm, Parts, RmPart};
 pub use refusal::Refusal;

@@ -3,11 +3,11 @@ ghost use Rattle.std.specs.Prelude.{◌≡◌};
 ghost use Rattle.gather.specs.Memory.{address_bank, is_rip, index_bank, base_allowed, index_allowed, checked_of, mem_checked, rip_part, rip_mem, displ_checked, offset_mem, sized_out, displ_out, out_mode, out_displ, bank_number, low3_or, bit3, bit4, wants_sib, address_part, stack_left, is_wrong, address_answer, address_of, based_mem, is_bare, ranged_mem, mem};
 
 use super::address::in_range;
-use super::parts::{Displ, RmPart, Sib};
+use super::parts::{Displ, RmPart};
 use super::refusal::Refusal;
 use fault::OperandFault;
 use instruction::Instruction;
-use machine::{Mode, Register};
+use machine::{Mode, Register, Sib};
 use policy::Policy;
 use record::{Record, RegisterRange};
 

@@ -1,12 +1,5 @@
 // What the operands come to: whole numbers, which only the writing cuts into bits.
-
-// A SIB byte's fields.
-#[derive(Clone, Copy)]
-pub struct Sib {
-    pub scale: u8,
-    pub index: u8,
-    pub base: u8,
-}
+use machine::Sib;
 
 // The displacement to be written, in the source's cases.
 #[derive(Clone, Copy)]

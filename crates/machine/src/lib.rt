@@ -15,6 +15,7 @@ mod registers;
 mod rounding;
 mod scale;
 mod segment;
+mod sib;
 
 pub use bank::Bank;
 pub use byte_code::ByteCode;
@@ -28,3 +29,4 @@ pub use register::Register;
 pub use rounding::RoundingControl;
 pub use scale::Scale;
 pub use segment::Segment;
+pub use sib::Sib;

@@ -8,7 +8,7 @@ use Rattle.record.specs.declared.op.RegisterRange.{RegisterRange}
 use Rattle.fields.specs.declared.cut.Cut.{Cut}
 use Rattle.fields.specs.declared.lead.Lead.{Lead}
 use Rattle.fields.specs.declared.mod_rm.ModRm.{ModRm}
-use Rattle.fields.specs.declared.mod_rm.Sib.{Sib}
+use Rattle.machine.specs.declared.sib.Sib.{Sib}
 use Rattle.fields.specs.ModRms.{bare, sib_bare, vector_number}
 use Rattle.reader.specs.declared.operand.Memory.{Memory}
 

@@ -1,5 +1,5 @@
 -- The reading of an instruction, and what it says without the places of bytes.
-use Rattle.std.specs.Prelude.{ℕ, ◌+◌, ◌%◌, List, Some, None, Ok, Err, Option, Result}
+use Rattle.std.specs.Prelude.{ℕ, ◌+◌, ◌%◌, ◌×◌, List, Some, None, Ok, Err, Option, Result}
 use Rattle.fault.specs.declared.reader.ReadFault.{ReadFault}
 use Rattle.fault.specs.declared.reader.ReadFault.TheVariants as F
 use Rattle.machine.specs.declared.mode.Mode.{Mode}
@@ -12,7 +12,7 @@ use Rattle.fields.specs.Cuts.{cut_of}
 use Rattle.reader.specs.declared.operand.Operand.{Operand}
 use Rattle.reader.specs.declared.reading.Layout.{Layout}
 use Rattle.reader.specs.declared.reading.Meaning.{Meaning}
-use Rattle.reader.specs.declared.reading.ReadOperands.{ReadOperands}
+use Rattle.reader.specs.declared.reading.ByPlace.{ByPlace}
 use Rattle.reader.specs.declared.reading.Reading.{Reading}
 use Rattle.reader.specs.Operands.{Spread, operand_at, ib_before, broadcast_of, imm_place}
 
@@ -24,7 +24,7 @@ next_of address c = (address + c.end) % 18446744073709551616
 abbrev pub layout_of : Cut → Layout
 layout_of c = record { head = c.prefixes.end; opcode = c.lead.end; mod_rm = c.code.end; displacement = c.mod_rm.end; immediate = imm_place c; end = c.end }
 
-unfoldable pub operands_of : Spread → Mode → Record → ℕ → Cut → ReadOperands
+unfoldable pub operands_of : Spread → Mode → Record → ℕ → Cut → ByPlace (Operand × ℕ)
 operands_of sp m r next c =
     let x = r.raw.operands in
     record { op0 = operand_at sp m r next c (ib_before x Op0) x.op0; op1 = operand_at sp m r next c (ib_before x Op1) x.op1; op2 = operand_at sp m r next c (ib_before x Op2) x.op2; op3 = operand_at sp m r next c (ib_before x Op3) x.op3; op4 = operand_at sp m r next c (ib_before x Op4) x.op4 }
@@ -49,4 +49,5 @@ plain None = None
 -- what an instruction says
 abbrev pub meaning_of : Reading → Meaning
 meaning_of x =
-    record { op0 = plain x.operands.op0; op1 = plain x.operands.op1; op2 = plain x.operands.op2; op3 = plain x.operands.op3; op4 = plain x.operands.op4; segment = x.segment; opmask = x.opmask; zeroing = x.zeroing; broadcast = x.broadcast }
+    let o = x.operands in
+    record { operands = record { op0 = plain o.op0; op1 = plain o.op1; op2 = plain o.op2; op3 = plain o.op3; op4 = plain o.op4 }; segment = x.segment; opmask = x.opmask; zeroing = x.zeroing; broadcast = x.broadcast }

@@ -7,4 +7,4 @@ mod reading;
 
 pub use field::{Field, FieldName};
 pub use operand::{Memory, Operand};
-pub use reading::{Layout, Meaning, ReadOperands, Reading};
+pub use reading::{ByPlace, Layout, Meaning, Reading};

@@ -1,14 +1,14 @@
 use super::operand::Operand;
 use machine::Segment;
 
-// The operands by place, each with the place of its bytes.
+// What stands at each place that has an operand.
 #[derive(Clone, Copy)]
-pub struct ReadOperands {
-    pub op0: Option<(Operand, usize)>,
-    pub op1: Option<(Operand, usize)>,
-    pub op2: Option<(Operand, usize)>,
-    pub op3: Option<(Operand, usize)>,
-    pub op4: Option<(Operand, usize)>,
+pub struct ByPlace<T> {
+    pub op0: Option<T>,
+    pub op1: Option<T>,
+    pub op2: Option<T>,
+    pub op3: Option<T>,
+    pub op4: Option<T>,
 }
 
 // Where each field begins, and where the instruction ends. Prefixes begin at 0.
@@ -22,10 +22,10 @@ pub struct Layout {
     pub end: usize,
 }
 
-// What the bytes say: operands, segment override, of EVEX opmask, zeroing and broadcast, and the fields' places.
+// What the bytes say: operands, each with the place of its bytes, segment override, of EVEX opmask, zeroing and broadcast, and the fields' places.
 #[derive(Clone, Copy)]
 pub struct Reading {
-    pub operands: ReadOperands,
+    pub operands: ByPlace<(Operand, usize)>,
     pub segment: Option<Segment>,
     pub opmask: u8,
     pub zeroing: bool,
@@ -36,11 +36,7 @@ pub struct Reading {
 // What an instruction says, without the places of bytes.
 #[derive(Clone, Copy)]
 pub struct Meaning {
-    pub op0: Option<Operand>,
-    pub op1: Option<Operand>,
-    pub op2: Option<Operand>,
-    pub op3: Option<Operand>,
-    pub op4: Option<Operand>,
+    pub operands: ByPlace<Operand>,
     pub segment: Option<Segment>,
     pub opmask: u8,
     pub zeroing: bool,

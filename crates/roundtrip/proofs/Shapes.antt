@@ -8,21 +8,16 @@ use Rattle.gather.specs.declared.memory.Out.TheVariants.{Nothing, Byte, Full, Wr
 use Rattle.gather.specs.declared.parts.Displ.{Displ}
 use Rattle.gather.specs.declared.parts.Displ.TheVariants as D
 use Rattle.gather.specs.declared.parts.RmPart.{RmPart}
-use Rattle.gather.specs.declared.parts.Sib as Gathered
 use Rattle.gather.specs.Memory.{address_part, out_mode, out_displ, low3_or, bit3, bit4, wants_sib}
 use Rattle.fields.specs.declared.lead.Lead.{Lead}
 use Rattle.fields.specs.declared.mod_rm.ModRm.{ModRm}
-use Rattle.fields.specs.declared.mod_rm.Sib.{Sib}
+use Rattle.machine.specs.declared.sib.Sib.{Sib}
 use Rattle.fields.specs.ModRms.{displ_size, has_sib}
 use Rattle.reader.specs.Addresses.{base_of, index_of, scale_of, first_general}
 
--- SIB and ModRM as the reader has them
-abbrev pub sib_read : Option Gathered.Sib → Option Sib
-sib_read (Some s) = Some record { scale = s.scale; index = s.index; base = s.base }
-sib_read None = None
-
+-- ModRM and SIB as the reader has them
 abbrev pub mod_rm_read : ℕ → ℕ → RmPart → ModRm
-mod_rm_read at reg p = record { end = at; mode = p.mode; reg = reg; rm = p.rm; sib = sib_read p.sib }
+mod_rm_read at reg p = record { end = at; mode = p.mode; reg = reg; rm = p.rm; sib = p.sib }
 
 -- the bits that the head holds for an address
 pub record Holds (lead : Lead) (p : RmPart) : Type 0 where
@@ -125,7 +120,7 @@ module _ (m : Mode) (width at reg scale d : ℕ) (must : Bool) (wide : (width �
   sib_there base index Wrong g = absurd g
 
 -- the numbers of ModRM and SIB are in range
-abbrev pub SibFits : Option Gathered.Sib → Type 0
+abbrev pub SibFits : Option Sib → Type 0
 SibFits (Some s) = (s.scale < 4) × (s.index < 8) × (s.base < 8)
 SibFits None = Unit {0}
 

@@ -58,7 +58,7 @@ broadcast_meant r i = is_evex r.raw.head && (broadcasts r i && uses_memory r.raw
 abbrev pub meant_in : Mode → Record → Instruction → Meaning
 meant_in m r i =
     let x = r.raw.operands in
-    record { op0 = meant_at m x i Op0 x.op0; op1 = meant_at m x i Op1 x.op1; op2 = meant_at m x i Op2 x.op2; op3 = meant_at m x i Op3 x.op3; op4 = meant_at m x i Op4 x.op4; segment = i.prefixes.segment; opmask = cond (is_evex r.raw.head) (opmask_number i.evex.opmask) 0; zeroing = is_evex r.raw.head && i.evex.zeroing; broadcast = broadcast_meant r i }
+    record { operands = record { op0 = meant_at m x i Op0 x.op0; op1 = meant_at m x i Op1 x.op1; op2 = meant_at m x i Op2 x.op2; op3 = meant_at m x i Op3 x.op3; op4 = meant_at m x i Op4 x.op4 }; segment = i.prefixes.segment; opmask = cond (is_evex r.raw.head) (opmask_number i.evex.opmask) 0; zeroing = is_evex r.raw.head && i.evex.zeroing; broadcast = broadcast_meant r i }
 
 abbrev pub meant_by : Option Mode → Record → Instruction → Option Meaning
 meant_by (Some m) r i = Some (meant_in m r i)
