@@ -1,5 +1,5 @@
 -- The reading of an instruction, and what it says without the places of bytes.
-use Rattle.std.specs.Prelude.{ℕ, ◌+◌, ◌%◌, ◌×◌, List, Some, None, Ok, Err, Option, Result}
+use Rattle.std.specs.Prelude.{ℕ, ◌+◌, ◌%◌, List, Some, None, Ok, Err, Option, Result}
 use Rattle.fault.specs.declared.reader.ReadFault.{ReadFault}
 use Rattle.fault.specs.declared.reader.ReadFault.TheVariants as F
 use Rattle.machine.specs.declared.mode.Mode.{Mode}
