@@ -1,5 +1,7 @@
 -- All operands of an instruction, in the order of their places.
 use Rattle.std.specs.Prelude.{ℕ, Bool, true, false, cond, not, ◌&&◌, ℤ, pos, negsuc, Some, None, Ok, Err, Option, Result, ◌==◌}
+use Rattle.std.specs.List.{fold}
+use Rattle.std.specs.Option.{option_or}
 use Rattle.fault.specs.declared.encode.EncodeFault.{EncodeFault}
 use Rattle.fault.specs.declared.encode.EncodeFault.TheVariants.{Operand, Encoding}
 use Rattle.fault.specs.declared.encoding.EncodingFault.TheVariants as E
@@ -8,7 +10,7 @@ use Rattle.machine.specs.declared.code_size.CodeSize.{CodeSize}
 use Rattle.machine.specs.declared.code_size.CodeSize.TheVariants.{Unknown, Code16, Code32, Code64}
 use Rattle.machine.specs.declared.mode.Mode.{Mode}
 use Rattle.machine.specs.declared.place.Place.{Place}
-use Rattle.machine.specs.declared.place.Place.TheVariants.{Op0, Op1, Op2, Op3, Op4}
+use Rattle.machine.specs.Places.{places}
 use Rattle.instruction.specs.declared.made.Instruction.{Instruction}
 use Rattle.record.specs.declared.flags.Flag.TheVariants as Flags
 use Rattle.record.specs.declared.raw.RawRecord.{RawRecord}
@@ -35,19 +37,12 @@ abbrev pub group_rm : ℤ → RmPart
 group_rm (pos n) = plain_part 3 n Absent
 group_rm (negsuc n) = blank
 
--- a 66 prefix for operands of 16 bits outside mode 16, and of 32 bits in mode 16
-abbrev pub size_66 : Mode → CodeSize → Bool
-size_66 m Unknown = false
-size_66 m Code16 = not (mode_bytes m == 2)
-size_66 m Code32 = mode_bytes m == 2
-size_66 m Code64 = false
-
--- a 67 prefix for addresses of 16 bits outside mode 16, and of 32 bits outside mode 32
-abbrev pub size_67 : Mode → CodeSize → Bool
-size_67 m Unknown = false
-size_67 m Code16 = not (mode_bytes m == 2)
-size_67 m Code32 = not (mode_bytes m == 4)
-size_67 m Code64 = false
+-- a prefix for a size of 16 bits outside mode 16, and of 32 bits where the mode does not take them by itself
+abbrev pub asks_prefix : Mode → CodeSize → (takes32 : Bool) → Bool
+asks_prefix m Unknown takes32 = false
+asks_prefix m Code16 takes32 = not (mode_bytes m == 2)
+asks_prefix m Code32 takes32 = not takes32
+asks_prefix m Code64 takes32 = false
 
 abbrev pub is_64 : CodeSize → Bool
 is_64 Unknown = false
@@ -55,9 +50,10 @@ is_64 Code16 = false
 is_64 Code32 = false
 is_64 Code64 = true
 
+-- modes 32 and 64 take operands of 32 bits by themselves, mode 32 addresses
 abbrev pub start_flags : Mode → RawRecord → HeadFlags
 start_flags m r =
-    record { p66 = size_66 m r.op_size; p67 = size_67 m r.addr_size; w = is_64 r.op_size && not (has_flag r.enc_flags3 Flags.DefaultOpSize64); rex = false; high = false; broadcast = false }
+    record { p66 = asks_prefix m r.op_size (not (mode_bytes m == 2)); p67 = asks_prefix m r.addr_size (mode_bytes m == 4); w = is_64 r.op_size && not (has_flag r.enc_flags3 Flags.DefaultOpSize64); rex = false; high = false; broadcast = false }
 
 -- the parts before any operand
 abbrev pub start_parts : Mode → RawRecord → Parts
@@ -74,9 +70,8 @@ start m r =
 
 -- the first refusal is kept
 abbrev pub keep_first : Option EncodeFault → Place → Result (Unit {0}) OperandFault → Option EncodeFault
-keep_first (Some e) at r = Some e
-keep_first None at (Err f) = Some (Operand at f)
-keep_first None at (Ok u) = None
+keep_first before at (Err f) = option_or before (Some (Operand at f))
+keep_first before at (Ok u) = before
 
 abbrev pub after_step : Option EncodeFault → Place → Step → Gathering
 after_step f at s = record { parts = s.parts; fault = keep_first f at (told s) }
@@ -85,10 +80,9 @@ after_step f at s = record { parts = s.parts; fault = keep_first f at (told s) }
 unfoldable pub place_step : Spread → Mode → Record → Instruction → Place → Gathering → Gathering
 place_step sp m r i at g = elim (op_at r.raw.operands at) [ Some op ↦ after_step g.fault at (op_step sp m r i at op g.parts) | None ↦ g ]
 
--- all places
+-- all places in their order
 abbrev pub in_order : Spread → Mode → Record → Instruction → Gathering
-in_order sp m r i =
-    place_step sp m r i Op4 (place_step sp m r i Op3 (place_step sp m r i Op2 (place_step sp m r i Op1 (place_step sp m r i Op0 (start m r)))))
+in_order sp m r i = fold (λ g at. place_step sp m r i at g) (start m r) places
 
 -- the same, shut: the layers above see the name and its laws
 unfoldable pub gathered : Spread → Mode → Record → Instruction → Gathering

@@ -1,14 +1,14 @@
 ghost use Rattle.std.specs.Prelude.{◌≡◌};
-ghost use Rattle.gather.specs.Parts.{plain_part, blank};
+ghost use Rattle.gather.specs.Parts.{plain_part, blank, left_of, refusal_of};
 
 use super::parts::{Displ, RmPart};
 use fault::OperandFault;
 
-// A refused memory or register operand, and what it leaves in its part.
+// A refused operand, and what it leaves in its part.
 #[derive(Clone, Copy)]
-pub struct Refusal {
+pub struct Refusal<T> {
     pub fault: OperandFault,
-    pub left: RmPart,
+    pub left: T,
 }
 
 impl RmPart {
@@ -28,15 +28,21 @@ impl RmPart {
     }
 }
 
-impl Refusal {
-    pub(crate) fn leaving(fault: OperandFault, left: RmPart) -> Refusal
-        ensures { (result.fault ≡ fault) × (result.left ≡ left) }
+impl<T> Refusal<T> {
+    // what goes into the parts, and the refusal where there is one
+    pub(crate) fn parted(answer: Result<T, Refusal<T>>) -> (T, Result<(), OperandFault>)
+        ensures { (result.0 ≡ left_of answer) × (result.1 ≡ refusal_of answer) }
     {
-        Refusal { fault, left }
+        match answer {
+            Ok(put) => (put, Ok(())),
+            Err(Refusal { fault, left }) => (left, Err(fault)),
+        }
     }
+}
 
+impl Refusal<RmPart> {
     // refused before anything is set
-    pub(crate) fn blank(fault: OperandFault) -> Refusal
+    pub(crate) fn blank(fault: OperandFault) -> Refusal<RmPart>
         ensures { (result.fault ≡ fault) × (result.left ≡ blank) }
     {
         Refusal {
