@@ -1,9 +1,10 @@
-ghost use Rattle.std.specs.Prelude.{◌≡◌, ℕ, ◌+◌, ◌<◌, ◌≤◌, Bool, [], ◌∷◌, ◌++◌, length};
+ghost use Rattle.std.specs.Prelude.{◌≡◌, ◌+◌, ◌<◌, ◌≤◌, [], ◌∷◌, ◌++◌, length};
 ghost use Rattle.encoder.specs.Lines.{used, opt};
 
 use super::Line;
 
 impl Line {
+    #[tactic(auto, unfolding(crate::specs::Lines::used))]
     pub(crate) fn empty() -> Line
         ensures bytes { used result ≡ [] }
         ensures count { result.count ≡ 0 }
@@ -14,6 +15,7 @@ impl Line {
         }
     }
 
+    #[tactic(auto, using(std::proofs::lemmas::List::take_more_set), unfolding(crate::specs::Lines::used))]
     pub(crate) fn push(&mut self, b: u8)
         requires { self.old.count < 31 }
         ensures bytes { used self.new ≡ used self.old ++ (b ∷ []) }
@@ -33,29 +35,15 @@ impl Line {
             self.push(b);
         }
     }
-}
 
-impl Line {
-    // how many bytes are used
-    pub fn len(&self) -> u8
-        ensures value { result ≡ length (used self.now) }
-        ensures bound { result ≤ 31 }
+    pub(crate) fn push_all(&mut self, bytes: &[u8])
+        requires { self.old.count + length bytes.now ≤ 31 }
+        ensures bytes { used self.new ≡ used self.old ++ bytes.now }
+        ensures count { self.new.count ≡ self.old.count + length bytes.now }
     {
-        self.places()
-    }
-
-    fn places(&self) -> u8
-        ensures { result ≡ self.now.count }
-    {
-        let count = self.count;
-        count
-    }
-
-    // the bytes used
-    pub fn bytes(&self) -> &[u8]
-        ensures { result.now ≡ used self.now }
-    {
-        let n = self.places() as usize;
-        &self.bytes[0..n]
+        let start = self.count as usize;
+        let end = start + bytes.len();
+        self.bytes[start..end].copy_from_slice(bytes);
+        self.count = end as u8;
     }
 }
