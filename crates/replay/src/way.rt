@@ -1,4 +1,9 @@
-// What is asked of a case.
+use super::answer::sound;
+use super::encoded::encoded;
+use super::reply::Reply;
+use text::Case;
+
+// What is asked of a case. An enum, and no closure, since a word of the input chooses it.
 #[derive(Clone, Copy)]
 pub enum Way {
     // whether its record is sound
@@ -14,6 +19,14 @@ impl Way {
             b"sound" => Some(Way::Sound),
             b"encode" => Some(Way::Encode),
             _ => None,
+        }
+    }
+
+    // the answer to a case
+    pub fn reply(self, case: &Case) -> Reply {
+        match self {
+            Way::Sound => Reply::Sound(sound(&case.record)),
+            Way::Encode => Reply::Encoded(encoded(case)),
         }
     }
 }
