@@ -1,4 +1,4 @@
-use record::{EvexHead, Head, LegacyHead, VexHead};
+use record::Head;
 use std::fmt;
 
 // What stands before the opcode.
@@ -22,46 +22,34 @@ impl fmt::Display for ByteText {
     }
 }
 
-fn show_legacy<W: fmt::Write>(head: &LegacyHead, f: &mut fmt::Formatter<W>) -> fmt::Result {
-    write!(
-        f,
-        "legacy{}{}{}",
-        ByteText("prefix", head.mandatory_prefix, &[0x66, 0xF2, 0xF3]),
-        ByteText("table1", head.table_byte1, &[0x0F]),
-        ByteText("table2", head.table_byte2, &[0x38, 0x3A])
-    )
-}
-
-fn show_vex<W: fmt::Write>(head: &VexHead, f: &mut fmt::Formatter<W>) -> fmt::Result {
-    write!(
-        f,
-        "vex{}{}{}{}{}",
-        ByteText("table", head.table, &[]),
-        ByteText("last", head.last_byte, &[]),
-        ByteText("mask_w_l", head.mask_w_l, &[]),
-        ByteText("mask_l", head.mask_l, &[]),
-        if head.w1 { " w1" } else { "" }
-    )
-}
-
-fn show_evex<W: fmt::Write>(head: &EvexHead, f: &mut fmt::Formatter<W>) -> fmt::Result {
-    write!(
-        f,
-        "evex{}{}{}{}{}",
-        ByteText("table", head.table, &[]),
-        ByteText("p1", head.p1_bits, &[]),
-        ByteText("ll", head.ll_bits, &[]),
-        ByteText("mask_w", head.mask_w, &[]),
-        ByteText("mask_ll", head.mask_ll, &[])
-    )
-}
-
 impl<'a> fmt::Display for HeadText<'a> {
     fn fmt<W: fmt::Write>(&self, f: &mut fmt::Formatter<W>) -> fmt::Result {
         match self.0 {
-            Head::Legacy(head) => show_legacy(head, f),
-            Head::Vex(head) => show_vex(head, f),
-            Head::Evex(head) => show_evex(head, f),
+            Head::Legacy(head) => write!(
+                f,
+                "legacy{}{}{}",
+                ByteText("prefix", head.mandatory_prefix, &[0x66, 0xF2, 0xF3]),
+                ByteText("table1", head.table_byte1, &[0x0F]),
+                ByteText("table2", head.table_byte2, &[0x38, 0x3A])
+            ),
+            Head::Vex(head) => write!(
+                f,
+                "vex{}{}{}{}{}",
+                ByteText("table", head.table, &[]),
+                ByteText("last", head.last_byte, &[]),
+                ByteText("mask_w_l", head.mask_w_l, &[]),
+                ByteText("mask_l", head.mask_l, &[]),
+                if head.w1 { " w1" } else { "" }
+            ),
+            Head::Evex(head) => write!(
+                f,
+                "evex{}{}{}{}{}",
+                ByteText("table", head.table, &[]),
+                ByteText("p1", head.p1_bits, &[]),
+                ByteText("ll", head.ll_bits, &[]),
+                ByteText("mask_w", head.mask_w, &[]),
+                ByteText("mask_ll", head.mask_ll, &[])
+            ),
         }
     }
 }

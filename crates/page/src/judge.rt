@@ -5,7 +5,6 @@ use text::Row;
 // How many rows there were, by what came of them.
 #[derive(Clone, Copy, Default)]
 pub struct Judge {
-    line: u64,
     sound: u64,
     unsound: u64,
     bad: u64,
@@ -30,9 +29,8 @@ impl Judge {
         self.rows() == 0
     }
 
-    // judges one line
-    pub fn take<W: Write>(&mut self, out: &mut W, line: &[u8]) -> io::Result<()> {
-        self.line = self.line.saturating_add(1);
+    // judges the line of this number
+    pub fn take<W: Write>(&mut self, out: &mut W, number: usize, line: &[u8]) -> io::Result<()> {
         if passed_over(line) {
             return Ok(());
         }
@@ -40,7 +38,7 @@ impl Judge {
             Ok(row) => self.judge_row(out, line, &row),
             Err(fault) => {
                 self.bad = self.bad.saturating_add(1);
-                writeln!(out, "line {}, column {}: {fault}", self.line, fault.column)
+                writeln!(out, "line {number}, column {}: {fault}", fault.column)
             }
         }
     }

@@ -30,9 +30,10 @@ fn show_built_in<W: Write>(out: &mut W) -> io::Result<()> {
 fn main(rt: HostRuntime) -> io::Result<()> {
     let mut judge = Judge::default();
     let mut out = BufWriter::new(rt.alloc(), rt.stdout())?;
-    for line in BufReader::new(rt.alloc(), rt.stdin())?.split(rt.alloc(), b'\n') {
+    let input = BufReader::new(rt.alloc(), rt.stdin())?;
+    for (i, line) in input.split(rt.alloc(), b'\n').enumerate() {
         let line = line?;
-        judge.take(&mut out, line.as_slice())?;
+        judge.take(&mut out, i + 1, line.as_slice())?;
     }
     if judge.is_empty() {
         show_built_in(&mut out)?;

@@ -61,12 +61,6 @@ fn less_first(line: &[u8], byte: u8) -> &[u8]
     line.strip_prefix(&[byte]).unwrap_or(line)
 }
 
-// the way that a line's first word names, and what stands after the word
-fn named(line: &[u8]) -> Option<(Way, &[u8])> {
-    let (word, rest) = cut(line, b' ');
-    Way::named(word).zip(rest)
-}
-
 impl<'a> Entry<'a> {
     // a line, whose first word is its way where none is given; none for an empty line or a comment
     pub fn parse(given: Option<Way>, line: &'a [u8]) -> Result<Option<Entry<'a>>, EntryFault> {
@@ -75,7 +69,10 @@ impl<'a> Entry<'a> {
         }
         let (way, line) = match given {
             Some(way) => (way, line),
-            None => named(line).ok_or(EntryFault::NoWay)?,
+            None => {
+                let (word, rest) = cut(line, b' ');
+                Way::named(word).zip(rest).ok_or(EntryFault::NoWay)?
+            }
         };
         let (case, expected) = match cut(line, b'=') {
             (case, Some(answer)) => (less_last(case, b' '), Some(less_first(answer, b' '))),

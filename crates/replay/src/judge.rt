@@ -1,4 +1,7 @@
+use super::answer::sound;
+use super::encoded::encoded;
 use super::entry::Entry;
+use super::reply::Reply;
 use super::way::Way;
 use std::alloc::Global;
 use std::io;
@@ -11,7 +14,6 @@ pub struct Judge {
     way: Option<Way>,
     // the last answer that was compared
     answer: String,
-    line: u64,
     taken: u64,
     differ: u64,
 }
@@ -21,21 +23,19 @@ impl Judge {
         Judge {
             way,
             answer: String::new(alloc),
-            line: 0,
             taken: 0,
             differ: 0,
         }
     }
 
-    // answers or compares one line
-    pub fn take<W: Write>(&mut self, out: &mut W, line: &[u8]) -> io::Result<()> {
-        self.line = self.line.saturating_add(1);
+    // answers or compares the line of this number
+    pub fn take<W: Write>(&mut self, out: &mut W, number: usize, line: &[u8]) -> io::Result<()> {
         match Entry::parse(self.way, line) {
             Ok(None) => Ok(()),
-            Ok(Some(entry)) => self.judge(out, &entry),
+            Ok(Some(entry)) => self.judge(out, number, &entry),
             Err(fault) => {
                 self.count(true);
-                writeln!(out, "line {}: {fault}", self.line)
+                writeln!(out, "line {number}: {fault}")
             }
         }
     }
@@ -45,8 +45,11 @@ impl Judge {
         self.differ = self.differ.saturating_add(u64::from(differs));
     }
 
-    fn judge<W: Write>(&mut self, out: &mut W, entry: &Entry) -> io::Result<()> {
-        let reply = entry.way.reply(&entry.case);
+    fn judge<W: Write>(&mut self, out: &mut W, number: usize, entry: &Entry) -> io::Result<()> {
+        let reply = match entry.way {
+            Way::Sound => Reply::Sound(sound(&entry.case.record)),
+            Way::Encode => Reply::Encoded(encoded(&entry.case)),
+        };
         let Some(expected) = entry.expected else {
             self.count(false);
             return writeln!(out, "{reply}");
@@ -58,7 +61,7 @@ impl Judge {
         if same {
             return Ok(());
         }
-        write!(out, "line {}: expected ", self.line)?;
+        write!(out, "line {number}: expected ")?;
         out.write_all(expected)?;
         writeln!(out, " got {reply}")
     }

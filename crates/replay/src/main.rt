@@ -29,9 +29,10 @@ fn chosen(rt: &HostRuntime) -> io::Result<Option<Way>> {
 fn main(rt: HostRuntime) -> io::Result<()> {
     let mut judge = Judge::new(rt.alloc(), chosen(&rt)?);
     let mut out = BufWriter::new(rt.alloc(), rt.stdout())?;
-    for line in BufReader::new(rt.alloc(), rt.stdin())?.split(rt.alloc(), b'\n') {
+    let input = BufReader::new(rt.alloc(), rt.stdin())?;
+    for (i, line) in input.split(rt.alloc(), b'\n').enumerate() {
         let line = line?;
-        judge.take(&mut out, line.as_slice())?;
+        judge.take(&mut out, i + 1, line.as_slice())?;
     }
     judge.end(&mut out)?;
     out.flush()

@@ -1,8 +1,3 @@
-use super::answer::sound;
-use super::encoded::encoded;
-use super::reply::Reply;
-use text::Case;
-
 // What is asked of a case. An enum, and no closure, since a word of the input chooses it.
 #[derive(Clone, Copy)]
 pub enum Way {
@@ -19,14 +14,6 @@ impl Way {
             b"sound" => Some(Way::Sound),
             b"encode" => Some(Way::Encode),
             _ => None,
-        }
-    }
-
-    // the answer to a case
-    pub fn reply(self, case: &Case) -> Reply {
-        match self {
-            Way::Sound => Reply::Sound(sound(&case.record)),
-            Way::Encode => Reply::Encoded(encoded(case)),
         }
     }
 }
