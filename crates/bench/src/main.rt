@@ -3,6 +3,7 @@
 #![tactic(auto)]
 
 use encoder::{RawSettings, encode};
+use fault::EncodeFault;
 use instruction::Instruction;
 use policy::{PortPolicy, port_policy};
 use record::Record;
@@ -13,6 +14,17 @@ use text::Case;
 
 const ROUNDS: usize = 25;
 
+// A round of so many nanoseconds or more counts as 0.
+const TOO_LONG: u64 = 1_000_000_000_000;
+
+const PLAIN: RawSettings = RawSettings {
+    prevent_vex2: 0,
+    vex_wig: 0,
+    vex_lig: 0,
+    evex_wig: 0,
+    evex_lig: 0,
+};
+
 // One instruction of the corpus, made.
 #[derive(Clone, Copy)]
 struct Item {
@@ -22,44 +34,37 @@ struct Item {
     instruction: Instruction,
 }
 
-// a case whose record and instruction are made
-fn made(line: &[u8]) -> Option<Item> {
-    let Ok(case) = Case::parse(line) else {
-        return None;
-    };
-    let Ok(record) = Record::new(case.record) else {
-        return None;
-    };
-    let Ok(instruction) = Instruction::new(&case.instruction) else {
-        return None;
-    };
-    let mode = if case.mode < 256 { case.mode as u8 } else { 0 };
-    Some(Item {
-        mode,
-        address: case.rip,
-        record,
-        instruction,
-    })
-}
+impl Item {
+    // the item of a line that is a case whose record and instruction are made
+    fn parse(line: &[u8]) -> Option<Item> {
+        let case = Case::parse(line).ok()?;
+        Some(Item {
+            mode: u8::try_from(case.mode).unwrap_or(0),
+            address: case.rip,
+            record: Record::new(case.record).ok()?,
+            instruction: Instruction::new(&case.instruction).ok()?,
+        })
+    }
 
-// a line without its end
-fn trimmed(line: &[u8]) -> &[u8] {
-    match line {
-        [rest @ .., b'\n'] => rest,
-        _ => line,
+    // the length of its encoding, or the first refusal
+    fn encode(&self, policy: &PortPolicy) -> Result<u8, EncodeFault> {
+        encode(
+            policy,
+            PLAIN,
+            self.mode,
+            self.address,
+            &self.record,
+            &self.instruction,
+        )
+        .result
     }
 }
 
 fn corpus(rt: &HostRuntime) -> io::Result<Vec<Item>> {
-    let mut input = BufReader::new(rt.alloc(), rt.stdin())?;
     let mut items = Vec::new(rt.alloc());
-    let mut line = Vec::new(rt.alloc());
-    for _ in 0..u64::MAX {
-        line.clear();
-        if input.read_until(b'\n', &mut line)? == 0 {
-            break;
-        }
-        if let Some(item) = made(trimmed(line.as_slice())) {
+    for line in BufReader::new(rt.alloc(), rt.stdin())?.split(rt.alloc(), b'\n') {
+        let line = line?;
+        if let Some(item) = Item::parse(line.as_slice()) {
             items.push(item)?;
         }
     }
@@ -68,28 +73,11 @@ fn corpus(rt: &HostRuntime) -> io::Result<Vec<Item>> {
 
 // encodes every item, and adds up the lengths of the accepted ones
 fn round(policy: &PortPolicy, items: &[Item]) -> u64 {
-    let settings = RawSettings {
-        prevent_vex2: 0,
-        vex_wig: 0,
-        vex_lig: 0,
-        evex_wig: 0,
-        evex_lig: 0,
-    };
-    let mut bytes = 0u64;
-    for item in items {
-        let got = encode(
-            policy,
-            settings,
-            item.mode,
-            item.address,
-            &item.record,
-            &item.instruction,
-        );
-        if let Ok(length) = got.result {
-            bytes = bytes.wrapping_add(length as u64);
-        }
-    }
-    bytes
+    items
+        .iter()
+        .filter_map(|item| item.encode(policy).ok())
+        .map(u64::from)
+        .fold(0, u64::wrapping_add)
 }
 
 // the times of all rounds, in nanoseconds
@@ -100,14 +88,11 @@ fn times(rt: &HostRuntime, policy: &PortPolicy, items: &[Item]) -> io::Result<Ve
         let start = Instant::now(rt)?;
         let bytes = round(policy, items);
         let took = start.elapsed(rt)?;
-        let nanos = took.as_nanos();
-        let nanos = if nanos < 1_000_000_000_000 {
-            nanos as u64
-        } else {
-            0
-        };
+        let nanos = u64::try_from(took.as_nanos())
+            .ok()
+            .filter(|nanos| *nanos < TOO_LONG);
         sum = sum.wrapping_add(bytes);
-        times.push(nanos)?;
+        times.push(nanos.unwrap_or(0))?;
     }
     times.sort_unstable();
     println!(rt; "{sum} bytes in all")?;
@@ -116,19 +101,18 @@ fn times(rt: &HostRuntime, policy: &PortPolicy, items: &[Item]) -> io::Result<Ve
 
 // tenths of a nanosecond for each of so many
 fn tenths(nanos: u64, count: usize) -> u64 {
-    if count == 0 {
-        return 0;
-    }
-    nanos.saturating_mul(10) / count as u64
+    nanos
+        .saturating_mul(10)
+        .checked_div(count as u64)
+        .unwrap_or(0)
 }
 
 fn asked(rt: &HostRuntime) -> io::Result<bool> {
-    let mut args = env::args(rt)?;
-    let _ = args.next();
-    match args.next() {
-        Some(word) => Ok(word.as_bytes() == b"figures".as_slice()),
-        None => Ok(false),
-    }
+    Ok(
+        env::args(rt)?
+            .nth(1)
+            .is_some_and(|word| word.as_str() == "figures"),
+    )
 }
 
 fn main(rt: HostRuntime) -> io::Result<()> {

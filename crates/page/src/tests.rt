@@ -9,9 +9,7 @@ fn again(rt: &impl Abort, heap: Global, line: &str) -> Result<(), Fail> {
     let Ok(row) = Row::parse(line.as_bytes()) else {
         return Err(Fail::new("not a row"));
     };
-    let text = RowText {
-        record: &row.record,
-    };
+    let text = RowText(&row.record);
     let printed = format!(in heap; "x | {text}")?;
     assert!(rt; printed.as_str() == line);
     Ok(())

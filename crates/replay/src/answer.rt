@@ -1,14 +1,12 @@
 ghost use Rattle.std.specs.Prelude.{◌≡◌};
 ghost use Rattle.replay.specs.Answers.{sound_of};
 
+use fault::Rule;
 use record::RawRecord;
 
 // the number of the first rule that a record breaks, 0 for none
 pub fn sound(raw: &RawRecord) -> u8
     ensures { result ≡ sound_of raw.now }
 {
-    match raw.broken_rule() {
-        Some(rule) => rule.number(),
-        None => 0,
-    }
+    raw.broken_rule().map_or(0, Rule::number)
 }

@@ -1,7 +1,5 @@
-// A case's encoding as an answer line: status, number, place, layer, length and bytes.
-use super::reply::Reply;
-use encoder::{RawSettings, encode};
-use fault::{Fault, MakingFault};
+use encoder::{Encoded, RawSettings, encode};
+use fault::MakingFault;
 use instruction::Instruction;
 use policy::port_policy;
 use record::Record;
@@ -17,62 +15,16 @@ fn settings_of(settings: CaseSettings) -> RawSettings {
     }
 }
 
-fn begun(status: u8, number: u8, place: u8, layer: u8) -> Reply {
-    let mut reply = Reply::empty();
-    reply.put_word(status);
-    reply.put_word(number);
-    reply.put_word(place);
-    reply.put_word(layer);
-    reply
-}
-
-fn ended(reply: Reply, bytes: &[u8]) -> Reply {
-    let mut reply = reply;
-    reply.put_word((bytes.len() % 256) as u8);
-    if bytes.is_empty() {
-        reply.put(b'-');
-    }
-    for byte in bytes {
-        reply.put_hex(*byte);
-    }
-    reply
-}
-
-// a record or an instruction that is not made
-fn unmade(fault: MakingFault) -> Reply {
-    let code = Fault::Making(fault).code();
-    let place = match fault {
-        MakingFault::Unsound(rule) => rule.number(),
-        MakingFault::Field => code.place,
-    };
-    ended(begun(2, code.number, place, code.layer), &[])
-}
-
-pub fn encoded(case: &Case) -> Reply {
-    let record = match Record::new(case.record) {
-        Ok(record) => record,
-        Err(fault) => return unmade(fault),
-    };
-    let instruction = match Instruction::new(&case.instruction) {
-        Ok(instruction) => instruction,
-        Err(fault) => return unmade(fault),
-    };
-    let mode = if case.mode < 256 { case.mode as u8 } else { 0 };
-    let policy = port_policy();
-    let got = encode(
-        &policy,
+// a case's encoding, or why its record or its instruction is not made
+pub fn encoded(case: &Case) -> Result<Encoded, MakingFault> {
+    let record = Record::new(case.record)?;
+    let instruction = Instruction::new(&case.instruction)?;
+    Ok(encode(
+        &port_policy(),
         settings_of(case.settings),
-        mode,
+        u8::try_from(case.mode).unwrap_or(0),
         case.rip,
         &record,
         &instruction,
-    );
-    let begun = match got.result {
-        Ok(_) => begun(0, 0, 0, 0),
-        Err(fault) => {
-            let code = Fault::Encode(fault).code();
-            begun(1, code.number, code.place, code.layer)
-        }
-    };
-    ended(begun, got.line.bytes())
+    ))
 }

@@ -3,88 +3,67 @@ use super::encoded::encoded;
 use super::entry::Entry;
 use super::reply::Reply;
 use super::way::Way;
+use std::alloc::Global;
 use std::io;
 use std::io::Write;
-use text::Case;
 
 // What has been taken so far.
-#[derive(Clone, Copy)]
+#[derive(Drop)]
 pub struct Judge {
     // the way of every line, where the lines name none
     way: Option<Way>,
-    line: u64,
+    // the last answer that was compared
+    answer: String,
     taken: u64,
     differ: u64,
 }
 
 impl Judge {
-    pub fn new(way: Option<Way>) -> Judge {
+    pub fn new(alloc: Global, way: Option<Way>) -> Judge {
         Judge {
             way,
-            line: 0,
+            answer: String::new(alloc),
             taken: 0,
             differ: 0,
         }
     }
 
-    // answers or compares one line
-    pub fn take<W: Write>(&mut self, out: &mut W, line: &[u8]) -> io::Result<()> {
-        self.line = self.line.saturating_add(1);
-        let number = self.line;
-        match Entry::new(self.way, line) {
-            Entry::Nothing => Ok(()),
-            Entry::NoWay => {
+    // answers or compares the line of this number
+    pub fn take<W: Write>(&mut self, out: &mut W, number: usize, line: &[u8]) -> io::Result<()> {
+        match Entry::parse(self.way, line) {
+            Ok(None) => Ok(()),
+            Ok(Some(entry)) => self.judge(out, number, &entry),
+            Err(fault) => {
                 self.count(true);
-                writeln!(
-                    out,
-                    "line {number}: expected one of the words sound, encode and a case"
-                )
+                writeln!(out, "line {number}: {fault}")
             }
-            Entry::Asked(way, case, expected) => self.judge(out, way, case, expected),
         }
     }
 
     fn count(&mut self, differs: bool) {
         self.taken = self.taken.saturating_add(1);
-        if differs {
-            self.differ = self.differ.saturating_add(1);
-        }
+        self.differ = self.differ.saturating_add(u64::from(differs));
     }
 
-    fn judge<W: Write>(
-        &mut self,
-        out: &mut W,
-        way: Way,
-        case: &[u8],
-        expected: Option<&[u8]>,
-    ) -> io::Result<()> {
-        let number = self.line;
-        let case = match Case::parse(case) {
-            Ok(case) => case,
-            Err(fault) => {
-                self.count(true);
-                return writeln!(out, "line {number}: {fault}");
-            }
+    fn judge<W: Write>(&mut self, out: &mut W, number: usize, entry: &Entry) -> io::Result<()> {
+        let reply = match entry.way {
+            Way::Sound => Reply::Sound(sound(&entry.case.record)),
+            Way::Encode => Reply::Encoded(encoded(&entry.case)),
         };
-        let got = match way {
-            Way::Sound => Reply::number(sound(&case.record)),
-            Way::Encode => encoded(&case),
-        };
-        let Some(expected) = expected else {
+        let Some(expected) = entry.expected else {
             self.count(false);
-            out.write_all(got.text())?;
-            return out.write_all(b"\n");
+            return writeln!(out, "{reply}");
         };
-        let same = got.is(expected);
+        self.answer.clear();
+        write!(self.answer, "{reply}")?;
+        let same = self.answer.as_bytes() == expected;
         self.count(!same);
         if same {
             return Ok(());
         }
         write!(out, "line {number}: expected ")?;
         out.write_all(expected)?;
-        out.write_all(b" got ")?;
-        out.write_all(got.text())?;
-        out.write_all(b"\n")
+        writeln!(out, " got {reply}")
     }
 
     // the counts, where the lines name their ways
@@ -92,8 +71,6 @@ impl Judge {
         if self.way.is_some() {
             return Ok(());
         }
-        let taken = self.taken;
-        let differ = self.differ;
-        writeln!(out, "{taken} lines, {differ} differ")
+        writeln!(out, "{} lines, {} differ", self.taken, self.differ)
     }
 }

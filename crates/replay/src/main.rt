@@ -15,31 +15,24 @@ use way::Way;
 
 // the way that the first argument names; none where there is no argument
 fn chosen(rt: &HostRuntime) -> io::Result<Option<Way>> {
-    let mut args = env::args(rt)?;
-    let _ = args.next();
-    let Some(word) = args.next() else {
+    let Some(word) = env::args(rt)?.nth(1) else {
         return Ok(None);
     };
-    match Way::named(word.as_bytes()) {
-        Some(way) => Ok(Some(way)),
-        None => {
-            eprintln!(rt; "replay: expected no argument or one of the words sound, encode")?;
-            Err(io::Error::from(io::ErrorKind::InvalidInput))
-        }
+    let way = Way::named(word.as_bytes());
+    if way.is_none() {
+        eprintln!(rt; "replay: expected no argument or one of the words sound, encode")?;
+        return Err(io::Error::from(io::ErrorKind::InvalidInput));
     }
+    Ok(way)
 }
 
 fn main(rt: HostRuntime) -> io::Result<()> {
-    let mut judge = Judge::new(chosen(&rt)?);
-    let mut input = BufReader::new(rt.alloc(), rt.stdin())?;
+    let mut judge = Judge::new(rt.alloc(), chosen(&rt)?);
     let mut out = BufWriter::new(rt.alloc(), rt.stdout())?;
-    let mut line = Vec::new(rt.alloc());
-    for _ in 0..u64::MAX {
-        line.clear();
-        if input.read_until(b'\n', &mut line)? == 0 {
-            break;
-        }
-        judge.take(&mut out, line.as_slice())?;
+    let input = BufReader::new(rt.alloc(), rt.stdin())?;
+    for (i, line) in input.split(rt.alloc(), b'\n').enumerate() {
+        let line = line?;
+        judge.take(&mut out, i + 1, line.as_slice())?;
     }
     judge.end(&mut out)?;
     out.flush()

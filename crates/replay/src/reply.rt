@@ -1,74 +1,71 @@
-ghost use Rattle.std.specs.Prelude.{◌≤◌};
+use encoder::Encoded;
+use fault::{Fault, FaultCode, MakingFault};
+use std::fmt;
 
-// An answer line: at most 96 bytes of text.
+// What is answered to a case, and printed as an answer line.
 #[derive(Clone, Copy)]
-pub struct Reply {
-    bytes: [u8; 96],
-    len: usize,
-    ghost fits: { len ≤ 96 },
+pub enum Reply {
+    // the number of the first rule that its record breaks, 0 for none
+    Sound(u8),
+    // its encoding, as status, number, place, layer, length and bytes
+    Encoded(Result<Encoded, MakingFault>),
 }
 
-const HEX: [u8; 16] = *b"0123456789abcdef";
+// A fault as its number, place and layer; an unsound record's place is the number of its rule.
+#[derive(Clone, Copy)]
+struct FaultText(Fault);
 
-impl Reply {
-    pub fn empty() -> Reply {
-        Reply {
-            bytes: [0; 96],
-            len: 0,
+// Bytes as their count and their digits, which are `-` where there is no byte.
+#[derive(Clone, Copy)]
+struct BytesText<'a>(&'a [u8]);
+
+impl fmt::Display for FaultText {
+    fn fmt<W: fmt::Write>(&self, f: &mut fmt::Formatter<W>) -> fmt::Result {
+        let FaultCode {
+            number,
+            place,
+            layer,
+        } = self.0.code();
+        let place = match self.0 {
+            Fault::Making(MakingFault::Unsound(rule)) => rule.number(),
+            _ => place,
+        };
+        write!(f, "{number} {place} {layer}")
+    }
+}
+
+impl<'a> fmt::Display for BytesText<'a> {
+    fn fmt<W: fmt::Write>(&self, f: &mut fmt::Formatter<W>) -> fmt::Result {
+        write!(f, "{} ", self.0.len())?;
+        if self.0.is_empty() {
+            return f.write_str("-");
         }
-    }
-
-    // one byte of text more, where there is room
-    pub fn put(&mut self, byte: u8) {
-        if self.len < 96 {
-            self.bytes[self.len] = byte;
-            self.len += 1;
+        for byte in self.0 {
+            write!(f, "{byte:02x}")?;
         }
+        Ok(())
     }
+}
 
-    // a number in decimal
-    pub fn put_number(&mut self, number: u8) {
-        if number >= 100 {
-            self.put(b'0' + number / 100);
-        }
-        if number >= 10 {
-            self.put(b'0' + number / 10 % 10);
-        }
-        self.put(b'0' + number % 10);
-    }
-
-    // a number with a space behind it
-    pub fn put_word(&mut self, number: u8) {
-        self.put_number(number);
-        self.put(b' ');
-    }
-
-    // a byte as two hexadecimal digits
-    pub fn put_hex(&mut self, byte: u8) {
-        self.put(HEX[byte as usize / 16]);
-        self.put(HEX[byte as usize % 16]);
-    }
-
-    pub fn number(number: u8) -> Reply {
-        let mut reply = Reply::empty();
-        reply.put_number(number);
-        reply
-    }
-
-    pub fn text(&self) -> &[u8] {
-        &self.bytes[0..self.len]
-    }
-
-    // whether this is the text
-    pub fn is(&self, text: &[u8]) -> bool {
-        if text.len() != self.len {
-            return false;
-        }
-        for (i, byte) in self.text().iter().enumerate() {
-            if i >= text.len() || text[i] != *byte {
-                return false;
+impl fmt::Display for Reply {
+    fn fmt<W: fmt::Write>(&self, f: &mut fmt::Formatter<W>) -> fmt::Result {
+        match self {
+            Reply::Sound(number) => write!(f, "{number}"),
+            Reply::Encoded(Ok(encoded)) => {
+                let bytes = BytesText(encoded.line.bytes());
+                match encoded.result {
+                    Ok(_) => write!(f, "0 0 0 0 {bytes}"),
+                    Err(fault) => write!(f, "1 {} {bytes}", FaultText(Fault::Encode(fault))),
+                }
+            }
+            Reply::Encoded(Err(fault)) => {
+                write!(
+                    f,
+                    "2 {} {}",
+                    FaultText(Fault::Making(*fault)),
+                    BytesText(&[])
+                )
             }
         }
-        true
     }
 }

@@ -1,4 +1,4 @@
-// What is asked of a case.
+// What is asked of a case. An enum, and no closure, since a word of the input chooses it.
 #[derive(Clone, Copy)]
 pub enum Way {
     // whether its record is sound
