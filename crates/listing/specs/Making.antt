@@ -1,4 +1,5 @@
-use Rattle.std.specs.Prelude.{ℕ, ◌/◌, ◌%◌, Bool, true, false, cond, List, [], ◌∷◌, length, Some, None, Ok, Err, Option, Result, ◌==◌, nat_lt, slice_index, slice_index_or, fold, zip, is_some, unwrap_or}
+use Rattle.std.specs.Prelude.{ℕ, ◌/◌, ◌%◌, Bool, true, false, cond, List, [], ◌∷◌, length, Some, None, Ok, Err, Option, Result, ◌==◌, nat_lt, slice_index, slice_index_or, fold, map, zip, is_some, unwrap_or}
+use Rattle.std.specs.List.{range_with_len}
 use Rattle.std.specs.Char.{to_ascii_uppercase}
 use Rattle.machine.specs.Banks.{bank_of}
 use Rattle.machine.specs.OpKinds.{kind_number}
@@ -30,7 +31,7 @@ place_of w at = cond (nat_lt at (length w)) (to_ascii_uppercase (slice_index w a
 
 -- a word in upper case, filled up with zeros to five places
 abbrev pub padded_of : List ℕ → List ℕ
-padded_of w = place_of w 0 ∷ place_of w 1 ∷ place_of w 2 ∷ place_of w 3 ∷ place_of w 4 ∷ []
+padded_of w = map (place_of w) (range_with_len 0 5)
 
 -- the register with a name
 abbrev pub named_of : List ℕ → Option Named

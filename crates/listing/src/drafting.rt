@@ -13,13 +13,7 @@ use machine::{Code, Mode, Opmask, RoundingControl};
 pub(crate) fn negated(number: u64) -> Option<u64>
     ensures { result ≡ negated_of number }
 {
-    if number == 0 {
-        Some(0)
-    } else if number <= 0x8000_0000_0000_0000 {
-        Some(0xFFFF_FFFF_FFFF_FFFF - number + 1)
-    } else {
-        None
-    }
+    (number <= 0x8000_0000_0000_0000).then(|| number.wrapping_neg())
 }
 
 impl Asked {
@@ -79,15 +73,13 @@ impl Stage {
             Stage::Done(_) => Wanted::End,
             Stage::Operand => Wanted::Operand,
             Stage::Negative => Wanted::Number,
-            Stage::Register(_) => Wanted::Comma,
+            Stage::Register(_) | Stage::Memory | Stage::After => Wanted::Comma,
             Stage::Open(_) => Wanted::Open,
             Stage::Term(_) => Wanted::Term,
             Stage::Held(_) => Wanted::Target,
             Stage::Factor => Wanted::Factor,
             Stage::Close => Wanted::Close,
-            Stage::Memory => Wanted::Comma,
             Stage::Size => Wanted::Size,
-            Stage::After => Wanted::Comma,
         }
     }
 }

@@ -24,10 +24,7 @@ fn run<F: Fn(u8) -> bool>(line: &[u8], of_kind: F) -> (&[u8], &[u8])
     requires { F.IsAlwaysCallable of_kind }
     ensures { length result.0.now + length result.1.now ≡ length line.now }
 {
-    let end = line
-        .iter()
-        .position(|byte| !of_kind(*byte))
-        .unwrap_or(line.len());
+    let end = line.iter().take_while(|byte| of_kind(**byte)).count();
     line.split_at(end)
 }
 

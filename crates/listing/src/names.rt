@@ -3,6 +3,7 @@ ghost use Rattle.std.specs.Prelude.{◌≡◌};
 ghost use Rattle.listing.specs.Making.{place_of, padded_of, named_of};
 
 use machine::Register;
+use std::array;
 
 // the byte at a place in upper case, 0 after the end
 fn place(word: &[u8], at: usize) -> u8
@@ -11,16 +12,11 @@ fn place(word: &[u8], at: usize) -> u8
     word.get(at).map_or(0, |byte| byte.to_ascii_uppercase())
 }
 
+// a word in upper case, filled up with zeros to five places
 fn padded(word: &[u8]) -> [u8; 5]
     ensures { result ≡ padded_of word.now }
 {
-    [
-        place(word, 0),
-        place(word, 1),
-        place(word, 2),
-        place(word, 3),
-        place(word, 4),
-    ]
+    array::from_fn(|at| place(word, at))
 }
 
 // the register with this name, in upper or lower case

@@ -37,14 +37,16 @@ impl Line {
     // what a line says, none where nothing stands on it
     pub fn parse(line: &[u8]) -> Result<Option<Line>, ListingFault> {
         let mut draft = Draft::new();
-        let mut rest = after_blanks(line);
-        while !matches!(rest, [] | [b'#', ..]) {
-            draft.column = (line.len() - rest.len()).saturating_add(1);
+        let mut rest = line;
+        loop {
+            rest = after_blanks(rest);
+            draft.column = line.len() - rest.len() + 1;
+            if matches!(rest, [] | [b'#', ..]) {
+                return draft.finish();
+            }
             let (token, after) = next_token(rest).ok_or(draft.fault())?;
             draft = draft.step(token)?;
-            rest = after_blanks(after);
+            rest = after;
         }
-        draft.column = (line.len() - rest.len()).saturating_add(1);
-        draft.finish()
     }
 }
