@@ -1,4 +1,4 @@
-use Rattle.std.specs.Prelude.{ℕ, ◌/◌, ◌%◌, Bool, true, false, cond, List, [], ◌∷◌, length, Some, None, Ok, Err, Option, Result, ◌==◌, nat_lt, slice_index, slice_index_or, fold, map, zip, is_some, unwrap_or}
+use Rattle.std.specs.Prelude.{ℕ, ◌/◌, ◌%◌, Bool, true, false, cond, List, [], ◌∷◌, length, Some, None, Ok, Err, Option, Result, ◌==◌, nat_lt, slice_index, slice_index_or, fold, map, take_while, is_some, unwrap_or}
 use Rattle.std.specs.List.{range_with_len}
 use Rattle.std.specs.Char.{to_ascii_uppercase}
 use Rattle.machine.specs.Banks.{bank_of}
@@ -23,6 +23,7 @@ use Rattle.listing.specs.declared.line.Asked.{Asked}
 use Rattle.listing.specs.declared.line.Given.{Given}
 use Rattle.listing.specs.declared.line.Given.TheVariants.{Register, Number, Memory}
 use Rattle.listing.specs.declared.line.Memory.{Memory as Place}
+use Rattle.listing.specs.declared.making.Slot.{Slot}
 use Rattle.listing.specs.declared.line_fault.ListingFault.{ListingFault}
 use Rattle.listing.specs.declared.line_fault.Wanted.TheVariants.{FewerOperands}
 
@@ -45,11 +46,11 @@ expected_of (Some (J k s)) = k
 expected_of (Some Iq) = kind.Immediate64
 expected_of _ = kind.Immediate8
 
-abbrev pub kind_of : Option Given → Option Op → OpKind
-kind_of (Some (Number n)) o = expected_of o
-kind_of (Some Memory) o = kind.Memory
-kind_of (Some (Register x)) o = kind.Register
-kind_of None o = kind.Register
+abbrev pub kind_of : Slot → OpKind
+kind_of s = elim s.given [
+  | Some g ↦ elim g [ Number n ↦ expected_of s.op | Memory ↦ kind.Memory | Register x ↦ kind.Register ]
+  | None ↦ kind.Register
+]
 
 -- the number of a register, 0 where there is none
 abbrev pub number_of : Option Named → ℕ
@@ -71,11 +72,11 @@ displaced kind.Immediate8Second = true
 displaced _ = false
 
 -- the immediate after an operand
-abbrev pub imm_after : ℕ → Option Given → Option Op → ℕ
-imm_after i (Some (Number n)) o = cond (displaced (expected_of o)) i (n % 4294967296)
-imm_after i (Some (Register x)) o = i
-imm_after i (Some Memory) o = i
-imm_after i None o = i
+abbrev pub imm_after : ℕ → Slot → ℕ
+imm_after i s = elim s.given [
+  | Some g ↦ elim g [ Number n ↦ cond (displaced (expected_of s.op)) i (n % 4294967296) | Memory ↦ i | Register x ↦ i ]
+  | None ↦ i
+]
 
 -- what a number of a kind leaves in the displacement: a target, a second byte, the high half of 64 bits
 abbrev pub displ_with : OpKind → ℕ → ℕ → ℕ
@@ -87,11 +88,11 @@ displ_with kind.Immediate64 n d = n / 4294967296
 displ_with _ n d = d
 
 -- the displacement after an operand
-abbrev pub displ_after : ℕ → Option Given → Option Op → ℕ
-displ_after d (Some (Number n)) o = displ_with (expected_of o) n d
-displ_after d (Some (Register x)) o = d
-displ_after d (Some Memory) o = d
-displ_after d None o = d
+abbrev pub displ_after : ℕ → Slot → ℕ
+displ_after d s = elim s.given [
+  | Some g ↦ elim g [ Number n ↦ displ_with (expected_of s.op) n d | Memory ↦ d | Register x ↦ d ]
+  | None ↦ d
+]
 
 -- the number of a size in bytes
 abbrev pub raw_size : ℕ → ℕ
@@ -113,33 +114,46 @@ usual_size mode m =
 abbrev pub size_of : ℕ → Place → ℕ
 size_of mode m = elim m.size [ Some s ↦ raw_size s | None ↦ usual_size mode m ]
 
--- the operands of a record by place
-abbrev pub slots_of : Operands → List (Option Op)
-slots_of o = o.op0 ∷ o.op1 ∷ o.op2 ∷ o.op3 ∷ o.op4 ∷ []
-
--- the immediate after all operands
-abbrev pub imm_of : Asked → List (Option Op) → ℕ
-imm_of a o = fold (λ i p. imm_after i p.0 p.1) 0 (zip a.operands o)
-
--- the displacement after all operands, where it was d at their begin
-abbrev pub displ_of : ℕ → Asked → List (Option Op) → ℕ
-displ_of d a o = fold (λ e p. displ_after e p.0 p.1) d (zip a.operands o)
-
 -- the memory operand, with nothing said where there is none
 abbrev pub memory_of : Asked → Place
 memory_of a = unwrap_or a.memory (memory_at None)
-
-abbrev pub given_at : Asked → ℕ → Option Given
-given_at a k = slice_index_or a.operands k None
 
 -- the number of a segment, 0 where there is none
 abbrev pub segment_of : Option Segment → ℕ
 segment_of (Some s) = segment_number s
 segment_of None = 0
 
--- the fields of the instruction that is asked for, at a record's operands
-abbrev pub fields_of : Asked → ℕ → Operands → RawInstruction
-fields_of a mode o = record {
+abbrev pub slot_of : Asked → ℕ → Option Op → Slot
+slot_of a k o = record { given = slice_index_or a.operands k None; op = o }
+
+-- the operands by place, each beside the record's
+abbrev pub slots_of : Asked → Operands → List Slot
+slots_of a o = slot_of a 0 o.op0 ∷ slot_of a 1 o.op1 ∷ slot_of a 2 o.op2 ∷ slot_of a 3 o.op3 ∷ slot_of a 4 o.op4 ∷ []
+
+-- how many of them the record has, before the first that it has not
+abbrev pub places_of : List Slot → ℕ
+places_of l = length (take_while (λ s. is_some s.op) l)
+
+-- the immediate after all operands
+abbrev pub imm_of : List Slot → ℕ
+imm_of l = fold imm_after 0 l
+
+-- the displacement after all operands, where it was d at their begin
+abbrev pub displ_of : ℕ → List Slot → ℕ
+displ_of d l = fold displ_after d l
+
+abbrev pub no_slot : Slot
+no_slot = record { given = None; op = None }
+
+abbrev pub kind_at : List Slot → ℕ → ℕ
+kind_at l k = kind_number (kind_of (slice_index_or l k no_slot))
+
+abbrev pub register_at : List Slot → ℕ → ℕ
+register_at l k = register_of (slice_index_or l k no_slot).given
+
+-- the fields of the instruction that is asked for, at its operands beside a record's
+abbrev pub fields_of : Asked → ℕ → List Slot → RawInstruction
+fields_of a mode l = record {
   code_size = 0;
   segment = segment_of (memory_of a).segment;
   lock = false;
@@ -149,16 +163,16 @@ fields_of a mode o = record {
   index = number_of (memory_of a).index;
   scale = scale_number (memory_of a).scale;
   displ_size = size_of mode (memory_of a);
-  mem_displ = displ_of (unwrap_or (memory_of a).displ 0) a (slots_of o);
-  immediate = imm_of a (slots_of o);
-  kind0 = kind_number (kind_of (given_at a 0) o.op0);
-  kind1 = kind_number (kind_of (given_at a 1) o.op1);
-  kind2 = kind_number (kind_of (given_at a 2) o.op2);
-  kind3 = kind_number (kind_of (given_at a 3) o.op3);
-  reg0 = register_of (given_at a 0);
-  reg1 = register_of (given_at a 1);
-  reg2 = register_of (given_at a 2);
-  reg3 = register_of (given_at a 3);
+  mem_displ = displ_of (unwrap_or (memory_of a).displ 0) l;
+  immediate = imm_of l;
+  kind0 = kind_at l 0;
+  kind1 = kind_at l 1;
+  kind2 = kind_at l 2;
+  kind3 = kind_at l 3;
+  reg0 = register_at l 0;
+  reg1 = register_at l 1;
+  reg2 = register_at l 2;
+  reg3 = register_at l 3;
   opmask = opmask_number a.dress.opmask;
   zeroing = a.dress.zeroing;
   broadcast = a.dress.broadcast;
@@ -169,4 +183,5 @@ fields_of a mode o = record {
 -- the instruction, or a fault where the record has fewer operands
 abbrev pub instruction_of : Asked → ℕ → Operands → Result RawInstruction ListingFault
 instruction_of a mode o =
-    cond (nat_lt (count_of (slots_of o)) (count_of a.operands)) (Err record { column = a.column; wanted = FewerOperands }) (Ok (fields_of a mode o))
+    cond (nat_lt (places_of (slots_of a o)) (count_of a.operands)) (Err record { column = a.column; wanted = FewerOperands })
+    (Ok (fields_of a mode (slots_of a o)))

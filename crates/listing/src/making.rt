@@ -1,7 +1,7 @@
 // The instruction that a line asks for, as numbers.
 ghost use Rattle.std.specs.Prelude.{◌≡◌};
 ghost use Rattle.listing.specs.Drafts.{count_of};
-ghost use Rattle.listing.specs.Making.{expected_of, kind_of, number_of, register_of, displaced, imm_after, displ_with, displ_after, raw_size, usual_size, size_of, slots_of, imm_of, displ_of, memory_of, fields_of, instruction_of};
+ghost use Rattle.listing.specs.Making.{expected_of, kind_of, number_of, register_of, displaced, imm_after, displ_with, displ_after, raw_size, usual_size, size_of, slots_of, places_of, imm_of, displ_of, memory_of, fields_of, instruction_of};
 
 use super::line::{Asked, Given, Memory};
 use super::line_fault::{ListingFault, Wanted};
@@ -9,25 +9,11 @@ use instruction::RawInstruction;
 use machine::{Bank, Code, OpKind, Register};
 use record::{Op, Operands};
 
-// the kind that a number has at a record's operand
-fn expected(op: Option<Op>) -> OpKind
-    ensures { result ≡ expected_of op }
-{
-    match op {
-        Some(Op::Ib(kind) | Op::Id(kind) | Op::J(kind, _)) => kind,
-        Some(Op::Iq) => OpKind::Immediate64,
-        _ => OpKind::Immediate8,
-    }
-}
-
-fn kind(given: Option<Given>, op: Option<Op>) -> OpKind
-    ensures { result ≡ kind_of given op }
-{
-    match given {
-        Some(Given::Number(_)) => expected(op),
-        Some(Given::Memory) => OpKind::Memory,
-        _ => OpKind::Register,
-    }
+// An operand that is asked for, and the record's at its place.
+#[derive(Clone, Copy)]
+struct Slot {
+    given: Option<Given>,
+    op: Option<Op>,
 }
 
 // the number of a register, 0 where there is none
@@ -35,15 +21,6 @@ fn number(register: Option<Register>) -> u8
     ensures { result ≡ number_of register }
 {
     register.map_or(0, |register| register.number)
-}
-
-fn register(given: Option<Given>) -> u8
-    ensures { result ≡ register_of given }
-{
-    match given {
-        Some(Given::Register(register)) => register.number,
-        _ => 0,
-    }
 }
 
 // whether a number of a kind stands in the displacement alone
@@ -59,17 +36,6 @@ fn is_displaced(kind: OpKind) -> bool
     )
 }
 
-// the immediate after an operand
-fn immediate(before: u32, given: Option<Given>, op: Option<Op>) -> u32
-    ensures { result ≡ imm_after before given op }
-{
-    match given {
-        Some(Given::Number(number)) if !is_displaced(expected(op)) => (number
-            % 0x1_0000_0000) as u32,
-        _ => before,
-    }
-}
-
 // what a number of a kind leaves in the displacement
 fn displaced_by(kind: OpKind, number: u64, before: u64) -> u64
     ensures { result ≡ displ_with kind number before }
@@ -82,13 +48,56 @@ fn displaced_by(kind: OpKind, number: u64, before: u64) -> u64
     }
 }
 
-// the displacement after an operand
-fn displacement(before: u64, given: Option<Given>, op: Option<Op>) -> u64
-    ensures { result ≡ displ_after before given op }
-{
-    match given {
-        Some(Given::Number(number)) => displaced_by(expected(op), number, before),
-        _ => before,
+impl Slot {
+    // the kind that a number has there
+    fn expected(&self) -> OpKind
+        ensures { result ≡ expected_of self.now.op }
+    {
+        match self.op {
+            Some(Op::Ib(kind) | Op::Id(kind) | Op::J(kind, _)) => kind,
+            Some(Op::Iq) => OpKind::Immediate64,
+            _ => OpKind::Immediate8,
+        }
+    }
+
+    fn kind(&self) -> OpKind
+        ensures { result ≡ kind_of self.now }
+    {
+        match self.given {
+            Some(Given::Number(_)) => self.expected(),
+            Some(Given::Memory) => OpKind::Memory,
+            _ => OpKind::Register,
+        }
+    }
+
+    fn register(&self) -> u8
+        ensures { result ≡ register_of self.now.given }
+    {
+        match self.given {
+            Some(Given::Register(register)) => register.number,
+            _ => 0,
+        }
+    }
+
+    // the immediate after the operand
+    fn immediate(&self, before: u32) -> u32
+        ensures { result ≡ imm_after before self.now }
+    {
+        match self.given {
+            Some(Given::Number(number)) if !is_displaced(self.expected()) => (number
+                % 0x1_0000_0000) as u32,
+            _ => before,
+        }
+    }
+
+    // the displacement after the operand
+    fn displacement(&self, before: u64) -> u64
+        ensures { result ≡ displ_after before self.now }
+    {
+        match self.given {
+            Some(Given::Number(number)) => displaced_by(self.expected(), number, before),
+            _ => before,
+        }
     }
 }
 
@@ -128,19 +137,6 @@ impl Memory {
     }
 }
 
-// the operands of a record by place
-fn slots(operands: &Operands) -> [Option<Op>; 5]
-    ensures { result ≡ slots_of operands.now }
-{
-    [
-        operands.op0,
-        operands.op1,
-        operands.op2,
-        operands.op3,
-        operands.op4,
-    ]
-}
-
 // how many operands there are before the first place that has none
 pub(crate) fn count<T>(operands: &[Option<T>]) -> usize
     ensures { result ≡ count_of operands.now }
@@ -151,33 +147,51 @@ pub(crate) fn count<T>(operands: &[Option<T>]) -> usize
         .count()
 }
 
+// how many of them the record has, before the first that it has not
+fn places(slots: &[Slot]) -> usize
+    ensures { result ≡ places_of slots.now }
+{
+    slots.iter().take_while(|slot| slot.op.is_some()).count()
+}
+
+// the immediate after all operands
+fn immediate(slots: &[Slot]) -> u32
+    ensures { result ≡ imm_of slots.now }
+{
+    slots.iter().fold(0, |before, slot| slot.immediate(before))
+}
+
+// the displacement after all operands, where it was `before` at their begin
+fn displacement(before: u64, slots: &[Slot]) -> u64
+    ensures { result ≡ displ_of before slots.now }
+{
+    slots
+        .iter()
+        .fold(before, |before, slot| slot.displacement(before))
+}
+
 impl Asked {
-    // the immediate after all operands
-    fn immediate(&self, operands: &[Option<Op>]) -> u32
-        ensures { result ≡ imm_of self.now operands.now }
+    // the operands by place, each beside the record's
+    fn slots(&self, operands: &Operands) -> [Slot; 5]
+        ensures { result ≡ slots_of self.now operands.now }
     {
-        self.operands
-            .iter()
-            .zip(operands)
-            .fold(0, |before, (given, op)| immediate(before, *given, *op))
+        let [op0, op1, op2, op3, op4] = self.operands;
+        let slot = |given, op| Slot { given, op };
+        [
+            slot(op0, operands.op0),
+            slot(op1, operands.op1),
+            slot(op2, operands.op2),
+            slot(op3, operands.op3),
+            slot(op4, operands.op4),
+        ]
     }
 
-    // the displacement after all operands, where it was `before` at their begin
-    fn displacement(&self, before: u64, operands: &[Option<Op>]) -> u64
-        ensures { result ≡ displ_of before self.now operands.now }
-    {
-        self.operands.iter().zip(operands).fold(
-            before,
-            |before, (given, op)| displacement(before, *given, *op),
-        )
-    }
-
-    fn fields(&self, mode: u8, operands: &Operands) -> RawInstruction
-        ensures { result ≡ fields_of self.now mode operands.now }
+    fn fields(&self, mode: u8, slots: [Slot; 5]) -> RawInstruction
+        ensures { result ≡ fields_of self.now mode slots }
     {
         let memory = self.memory.unwrap_or(Memory::new(None));
-        let slots = slots(operands);
-        let [op0, op1, op2, op3, _] = self.operands;
+        let displ = memory.displ.unwrap_or(0);
+        let [op0, op1, op2, op3, _] = slots;
         RawInstruction {
             code_size: 0,
             segment: memory.segment.map_or(0, |segment| segment.number()),
@@ -188,16 +202,16 @@ impl Asked {
             index: number(memory.index),
             scale: memory.scale.number(),
             displ_size: memory.size(mode),
-            mem_displ: self.displacement(memory.displ.unwrap_or(0), &slots),
-            immediate: self.immediate(&slots),
-            kind0: kind(op0, operands.op0).number(),
-            kind1: kind(op1, operands.op1).number(),
-            kind2: kind(op2, operands.op2).number(),
-            kind3: kind(op3, operands.op3).number(),
-            reg0: register(op0),
-            reg1: register(op1),
-            reg2: register(op2),
-            reg3: register(op3),
+            mem_displ: displacement(displ, &slots),
+            immediate: immediate(&slots),
+            kind0: op0.kind().number(),
+            kind1: op1.kind().number(),
+            kind2: op2.kind().number(),
+            kind3: op3.kind().number(),
+            reg0: op0.register(),
+            reg1: op1.register(),
+            reg2: op2.register(),
+            reg3: op3.register(),
             opmask: self.dress.opmask.number(),
             zeroing: self.dress.zeroing,
             broadcast: self.dress.broadcast,
@@ -210,12 +224,13 @@ impl Asked {
     pub fn instruction(&self, mode: u8, operands: &Operands) -> Result<RawInstruction, ListingFault>
         ensures { result ≡ instruction_of self.now mode operands.now }
     {
-        if count(&self.operands) > count(&slots(operands)) {
+        let slots = self.slots(operands);
+        if count(&self.operands) > places(&slots) {
             return Err(ListingFault {
                 column: self.column,
                 wanted: Wanted::FewerOperands,
             });
         }
-        Ok(self.fields(mode, operands))
+        Ok(self.fields(mode, slots))
     }
 }
