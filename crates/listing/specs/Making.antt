@@ -1,4 +1,4 @@
-use Rattle.std.specs.Prelude.{ℕ, ◌/◌, ◌%◌, Bool, true, false, cond, List, [], ◌∷◌, length, Some, None, Ok, Err, Option, Result, ◌==◌, nat_lt, slice_index, slice_index_or, fold, map, take_while, is_some, unwrap_or}
+use Rattle.std.specs.Prelude.{ℕ, ◌/◌, ◌%◌, Bool, true, false, cond, List, [], ◌∷◌, length, Some, None, Ok, Err, Option, Result, ◌==◌, nat_lt, slice_index, slice_index_or, fold, map, is_some, unwrap_or}
 use Rattle.std.specs.List.{range_with_len}
 use Rattle.std.specs.Char.{to_ascii_uppercase}
 use Rattle.machine.specs.Banks.{bank_of}
@@ -123,16 +123,16 @@ abbrev pub segment_of : Option Segment → ℕ
 segment_of (Some s) = segment_number s
 segment_of None = 0
 
-abbrev pub slot_of : Asked → ℕ → Option Op → Slot
-slot_of a k o = record { given = slice_index_or a.operands k None; op = o }
+-- the operands of a record by place
+abbrev pub by_place_of : Operands → List (Option Op)
+by_place_of o = o.op0 ∷ o.op1 ∷ o.op2 ∷ o.op3 ∷ o.op4 ∷ []
 
--- the operands by place, each beside the record's
-abbrev pub slots_of : Asked → Operands → List Slot
-slots_of a o = slot_of a 0 o.op0 ∷ slot_of a 1 o.op1 ∷ slot_of a 2 o.op2 ∷ slot_of a 3 o.op3 ∷ slot_of a 4 o.op4 ∷ []
+abbrev pub slot_at : Asked → List (Option Op) → ℕ → Slot
+slot_at a l k = record { given = slice_index_or a.operands k None; op = slice_index_or l k None }
 
--- how many of them the record has, before the first that it has not
-abbrev pub places_of : List Slot → ℕ
-places_of l = length (take_while (λ s. is_some s.op) l)
+-- the operands, each beside the record's at its place
+abbrev pub slots_of : Asked → List (Option Op) → List Slot
+slots_of a l = map (slot_at a l) (range_with_len 0 5)
 
 -- the immediate after all operands
 abbrev pub imm_of : List Slot → ℕ
@@ -183,5 +183,5 @@ fields_of a mode l = record {
 -- the instruction, or a fault where the record has fewer operands
 abbrev pub instruction_of : Asked → ℕ → Operands → Result RawInstruction ListingFault
 instruction_of a mode o =
-    cond (nat_lt (places_of (slots_of a o)) (count_of a.operands)) (Err record { column = a.column; wanted = FewerOperands })
-    (Ok (fields_of a mode (slots_of a o)))
+    cond (nat_lt (count_of (by_place_of o)) (count_of a.operands)) (Err record { column = a.column; wanted = FewerOperands })
+    (Ok (fields_of a mode (slots_of a (by_place_of o))))

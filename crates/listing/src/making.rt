@@ -1,13 +1,14 @@
 // The instruction that a line asks for, as numbers.
-ghost use Rattle.std.specs.Prelude.{◌≡◌};
+ghost use Rattle.std.specs.Prelude.{◌≡◌, ◌<◌};
 ghost use Rattle.listing.specs.Drafts.{count_of};
-ghost use Rattle.listing.specs.Making.{expected_of, kind_of, number_of, register_of, displaced, imm_after, displ_with, displ_after, raw_size, usual_size, size_of, slots_of, places_of, imm_of, displ_of, memory_of, fields_of, instruction_of};
+ghost use Rattle.listing.specs.Making.{expected_of, kind_of, number_of, register_of, displaced, imm_after, displ_with, displ_after, raw_size, usual_size, size_of, by_place_of, slot_at, slots_of, imm_of, displ_of, memory_of, fields_of, instruction_of};
 
 use super::line::{Asked, Given, Memory};
 use super::line_fault::{ListingFault, Wanted};
 use instruction::RawInstruction;
 use machine::{Bank, Code, OpKind, Register};
 use record::{Op, Operands};
+use std::array;
 
 // An operand that is asked for, and the record's at its place.
 #[derive(Clone, Copy)]
@@ -147,11 +148,17 @@ pub(crate) fn count<T>(operands: &[Option<T>]) -> usize
         .count()
 }
 
-// how many of them the record has, before the first that it has not
-fn places(slots: &[Slot]) -> usize
-    ensures { result ≡ places_of slots.now }
+// the operands of a record by place
+fn by_place(operands: &Operands) -> [Option<Op>; 5]
+    ensures { result ≡ by_place_of operands.now }
 {
-    slots.iter().take_while(|slot| slot.op.is_some()).count()
+    [
+        operands.op0,
+        operands.op1,
+        operands.op2,
+        operands.op3,
+        operands.op4,
+    ]
 }
 
 // the immediate after all operands
@@ -171,19 +178,21 @@ fn displacement(before: u64, slots: &[Slot]) -> u64
 }
 
 impl Asked {
-    // the operands by place, each beside the record's
-    fn slots(&self, operands: &Operands) -> [Slot; 5]
-        ensures { result ≡ slots_of self.now operands.now }
+    // the operand at a place, beside the record's
+    fn slot(&self, ops: &[Option<Op>; 5], at: usize) -> Slot
+        requires { at < 5 }
+        ensures { result ≡ slot_at self.now ops.now at }
     {
-        let [op0, op1, op2, op3, op4] = self.operands;
-        let slot = |given, op| Slot { given, op };
-        [
-            slot(op0, operands.op0),
-            slot(op1, operands.op1),
-            slot(op2, operands.op2),
-            slot(op3, operands.op3),
-            slot(op4, operands.op4),
-        ]
+        Slot {
+            given: self.operands[at],
+            op: ops[at],
+        }
+    }
+
+    fn slots(&self, ops: &[Option<Op>; 5]) -> [Slot; 5]
+        ensures { result ≡ slots_of self.now ops.now }
+    {
+        array::from_fn(|at| self.slot(ops, at))
     }
 
     fn fields(&self, mode: u8, slots: [Slot; 5]) -> RawInstruction
@@ -224,13 +233,13 @@ impl Asked {
     pub fn instruction(&self, mode: u8, operands: &Operands) -> Result<RawInstruction, ListingFault>
         ensures { result ≡ instruction_of self.now mode operands.now }
     {
-        let slots = self.slots(operands);
-        if count(&self.operands) > places(&slots) {
+        let ops = by_place(operands);
+        if count(&self.operands) > count(&ops) {
             return Err(ListingFault {
                 column: self.column,
                 wanted: Wanted::FewerOperands,
             });
         }
-        Ok(self.fields(mode, slots))
+        Ok(self.fields(mode, self.slots(&ops)))
     }
 }
