@@ -57,11 +57,11 @@ abbrev pub number_of : Option Named → ℕ
 number_of (Some x) = x.number
 number_of None = 0
 
-abbrev pub register_of : Option Given → ℕ
-register_of (Some (Register x)) = x.number
-register_of (Some (Number n)) = 0
-register_of (Some Memory) = 0
-register_of None = 0
+abbrev pub register_of : Option Given → Option Named
+register_of (Some (Register x)) = Some x
+register_of (Some (Number n)) = None
+register_of (Some Memory) = None
+register_of None = None
 
 -- whether a number of a kind stands in the displacement alone: a branch target or a second byte
 abbrev pub displaced : OpKind → Bool
@@ -149,7 +149,7 @@ abbrev pub kind_at : List Slot → ℕ → ℕ
 kind_at l k = kind_number (kind_of (slice_index_or l k no_slot))
 
 abbrev pub register_at : List Slot → ℕ → ℕ
-register_at l k = register_of (slice_index_or l k no_slot).given
+register_at l k = number_of (register_of (slice_index_or l k no_slot).given)
 
 -- the fields of the instruction that is asked for, at its operands beside a record's
 abbrev pub fields_of : Asked → ℕ → List Slot → RawInstruction

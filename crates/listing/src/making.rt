@@ -71,12 +71,12 @@ impl Slot {
         }
     }
 
-    fn register(&self) -> u8
+    fn register(&self) -> Option<Register>
         ensures { result ≡ register_of self.now.given }
     {
         match self.given {
-            Some(Given::Register(register)) => register.number,
-            _ => 0,
+            Some(Given::Register(register)) => Some(register),
+            _ => None,
         }
     }
 
@@ -131,10 +131,7 @@ impl Memory {
     fn size(&self, mode: u8) -> u8
         ensures { result ≡ size_of mode self.now }
     {
-        match self.size {
-            Some(size) => raw_size(size),
-            None => self.usual_size(mode),
-        }
+        self.size.map_or(self.usual_size(mode), raw_size)
     }
 }
 
@@ -217,10 +214,10 @@ impl Asked {
             kind1: op1.kind().number(),
             kind2: op2.kind().number(),
             kind3: op3.kind().number(),
-            reg0: op0.register(),
-            reg1: op1.register(),
-            reg2: op2.register(),
-            reg3: op3.register(),
+            reg0: number(op0.register()),
+            reg1: number(op1.register()),
+            reg2: number(op2.register()),
+            reg3: number(op3.register()),
             opmask: self.dress.opmask.number(),
             zeroing: self.dress.zeroing,
             broadcast: self.dress.broadcast,
@@ -229,7 +226,8 @@ impl Asked {
         }
     }
 
-    // the instruction in a mode, its kinds by the record's operands; a fault where the record has fewer operands
+    // the instruction in a mode, its kinds by the record's operands; a fault where the record has fewer operands.
+    // The mode is a number, as `encode` takes it: one that no mode has counts as 64.
     pub fn instruction(&self, mode: u8, operands: &Operands) -> Result<RawInstruction, ListingFault>
         ensures { result ≡ instruction_of self.now mode operands.now }
     {
