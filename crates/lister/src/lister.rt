@@ -95,15 +95,16 @@ impl<W: Write> Lister<W> {
     fn refuse(&mut self, line: &[u8], refusal: Refusal) -> io::Result<()> {
         match refusal {
             Refusal::Line(fault) => {
-                let at = self.line;
-                let column = fault.column;
                 self.bad = self.bad.saturating_add(1);
-                writeln!(self.out, "line {at}, column {column}: {fault}")
+                writeln!(
+                    self.out,
+                    "line {}, column {}: {fault}",
+                    self.line, fault.column
+                )
             }
             Refusal::Instruction(fault) => {
-                let address = self.address;
                 self.refused = self.refused.saturating_add(1);
-                write!(self.out, "{address:08X}  refused: {fault}: ")?;
+                write!(self.out, "{:08X}  refused: {fault}: ", self.address)?;
                 self.out.write_all(line)?;
                 self.out.write_all(b"\n")
             }
@@ -112,12 +113,10 @@ impl<W: Write> Lister<W> {
 
     // the counts, once all lines are taken
     pub fn end(&mut self) -> io::Result<()> {
-        let accepted = self.accepted;
-        let refused = self.refused;
-        let bad = self.bad;
         writeln!(
             self.out,
-            "{accepted} accepted, {refused} refused, {bad} bad lines"
+            "{} accepted, {} refused, {} bad lines",
+            self.accepted, self.refused, self.bad
         )?;
         self.out.flush()
     }
