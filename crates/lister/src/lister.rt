@@ -1,18 +1,28 @@
+use super::refusal::Refusal;
 use super::shown::{show_bytes, trimmed};
 use catalogue::{BuiltIn, Catalogue};
-use encoder::{RawSettings, encode};
+use encoder::{Encoded, RawSettings, encode};
 use fault::{AppendFault, Fault, SheetFault};
 use instruction::Instruction;
-use listing::{Asked, Line, ListingFault};
+use listing::{Asked, Line};
+use machine::{Code, Mode};
 use policy::port_policy;
-use record::Record;
 use std::io;
 use std::io::Write;
 
-// Where the next instruction goes, and how many lines there were by what came of them.
-#[derive(Clone, Copy)]
-pub struct Lister {
-    mode: u8,
+const PLAIN: RawSettings = RawSettings {
+    prevent_vex2: 0,
+    vex_wig: 0,
+    vex_lig: 0,
+    evex_wig: 0,
+    evex_lig: 0,
+};
+
+// Where the next instruction goes, what is printed to, and how many lines there were by what came of them.
+#[derive(Drop)]
+pub struct Lister<W> {
+    out: W,
+    mode: Mode,
     address: u64,
     line: u64,
     accepted: u64,
@@ -20,21 +30,11 @@ pub struct Lister {
     bad: u64,
 }
 
-// every setting 0
-fn plain_settings() -> RawSettings {
-    RawSettings {
-        prevent_vex2: 0,
-        vex_wig: 0,
-        vex_lig: 0,
-        evex_wig: 0,
-        evex_lig: 0,
-    }
-}
-
-impl Lister {
-    pub fn new() -> Lister {
+impl<W: Write> Lister<W> {
+    pub fn new(out: W) -> Lister<W> {
         Lister {
-            mode: 64,
+            out,
+            mode: Mode::Bits64,
             address: 0x1000,
             line: 0,
             accepted: 0,
@@ -44,92 +44,80 @@ impl Lister {
     }
 
     // one line of the listing
-    pub fn take<W: Write>(&mut self, out: &mut W, line: &[u8]) -> io::Result<()> {
+    pub fn take(&mut self, line: &[u8]) -> io::Result<()> {
         self.line = self.line.saturating_add(1);
         let line = trimmed(line);
-        match Line::parse(line) {
-            Ok(Line::Nothing) => Ok(()),
-            Ok(Line::Mode(mode)) => {
+        match self.answer(line) {
+            Ok(None) => Ok(()),
+            Ok(Some(encoded)) => self.accept(line, &encoded),
+            Err(refusal) => self.refuse(line, refusal),
+        }
+    }
+
+    // what an instruction that a line asks for becomes; none where the line asks for none
+    fn answer(&mut self, line: &[u8]) -> Result<Option<Encoded>, Refusal> {
+        match Line::parse(line)? {
+            None => Ok(None),
+            Some(Line::Mode(mode)) => {
                 self.mode = mode;
-                Ok(())
+                Ok(None)
             }
-            Ok(Line::At(address)) => {
+            Some(Line::At(address)) => {
                 self.address = address;
-                Ok(())
+                Ok(None)
             }
-            Ok(Line::Asked(asked)) => self.list(out, line, &asked),
-            Err(fault) => self.misread(out, fault),
+            Some(Line::Asked(asked)) => Ok(Some(self.encoded(&asked)?)),
         }
     }
 
-    fn misread<W: Write>(&mut self, out: &mut W, fault: ListingFault) -> io::Result<()> {
-        let at = self.line;
-        let column = fault.column;
-        self.bad = self.bad.saturating_add(1);
-        writeln!(out, "line {at}, column {column}: {fault}")
-    }
-
-    fn refuse<W: Write>(&mut self, out: &mut W, line: &[u8], fault: Fault) -> io::Result<()> {
-        let address = self.address;
-        self.refused = self.refused.saturating_add(1);
-        write!(out, "{address:08X}  refused: {fault}: ")?;
-        out.write_all(line)?;
-        out.write_all(b"\n")
-    }
-
-    // the instruction that is asked for, with its bytes
-    fn list<W: Write>(&mut self, out: &mut W, line: &[u8], asked: &Asked) -> io::Result<()> {
-        let Some(record) = BuiltIn.get(asked.number) else {
-            let fault = Fault::Append(AppendFault::Sheet(SheetFault::NoRecord));
-            return self.refuse(out, line, fault);
-        };
-        let raw = match asked.instruction(self.mode, &record.raw.operands) {
-            Ok(raw) => raw,
-            Err(fault) => return self.misread(out, fault),
-        };
-        match Instruction::new(&raw) {
-            Ok(instruction) => self.encode(out, line, &record, &instruction),
-            Err(fault) => self.refuse(out, line, Fault::Making(fault)),
-        }
-    }
-
-    fn encode<W: Write>(
-        &mut self,
-        out: &mut W,
-        line: &[u8],
-        record: &Record,
-        instruction: &Instruction,
-    ) -> io::Result<()> {
+    fn encoded(&self, asked: &Asked) -> Result<Encoded, Refusal> {
+        let no_record = Fault::Append(AppendFault::Sheet(SheetFault::NoRecord));
+        let record = BuiltIn.get(asked.number).ok_or(no_record)?;
+        let mode = self.mode.number();
+        let raw = asked.instruction(mode, &record.raw.operands)?;
+        let instruction = Instruction::new(&raw).map_err(Fault::Making)?;
         let policy = port_policy();
-        let got = encode(
-            &policy,
-            plain_settings(),
-            self.mode,
-            self.address,
-            record,
-            instruction,
-        );
-        match got.result {
-            Ok(length) => {
-                let address = self.address;
-                self.accepted = self.accepted.saturating_add(1);
-                self.address = address.wrapping_add(length as u64);
-                show_bytes(out, address, got.line.bytes())?;
-                out.write_all(line)?;
-                out.write_all(b"\n")
+        let encoded = encode(&policy, PLAIN, mode, self.address, &record, &instruction);
+        encoded.result.map_err(Fault::Encode)?;
+        Ok(encoded)
+    }
+
+    fn accept(&mut self, line: &[u8], encoded: &Encoded) -> io::Result<()> {
+        let bytes = encoded.line.bytes();
+        let address = self.address;
+        self.accepted = self.accepted.saturating_add(1);
+        self.address = address.wrapping_add(bytes.len() as u64);
+        show_bytes(&mut self.out, address, bytes)?;
+        self.out.write_all(line)?;
+        self.out.write_all(b"\n")
+    }
+
+    fn refuse(&mut self, line: &[u8], refusal: Refusal) -> io::Result<()> {
+        match refusal {
+            Refusal::Line(fault) => {
+                self.bad = self.bad.saturating_add(1);
+                writeln!(
+                    self.out,
+                    "line {}, column {}: {fault}",
+                    self.line, fault.column
+                )
             }
-            Err(fault) => self.refuse(out, line, Fault::Encode(fault)),
+            Refusal::Instruction(fault) => {
+                self.refused = self.refused.saturating_add(1);
+                write!(self.out, "{:08X}  refused: {fault}: ", self.address)?;
+                self.out.write_all(line)?;
+                self.out.write_all(b"\n")
+            }
         }
     }
 
-    // the counts
-    pub fn end<W: Write>(&self, out: &mut W) -> io::Result<()> {
-        let accepted = self.accepted;
-        let refused = self.refused;
-        let bad = self.bad;
+    // the counts, once all lines are taken
+    pub fn end(&mut self) -> io::Result<()> {
         writeln!(
-            out,
-            "{accepted} accepted, {refused} refused, {bad} bad lines"
-        )
+            self.out,
+            "{} accepted, {} refused, {} bad lines",
+            self.accepted, self.refused, self.bad
+        )?;
+        self.out.flush()
     }
 }

@@ -14,7 +14,6 @@ pub fn trimmed(line: &[u8]) -> &[u8] {
 pub fn show_bytes<W: Write>(out: &mut W, address: u64, bytes: &[u8]) -> io::Result<()> {
     write!(out, "{address:08X} ")?;
     for byte in bytes {
-        let byte = *byte;
         write!(out, " {byte:02X}")?;
     }
     for _ in bytes.len()..15 {

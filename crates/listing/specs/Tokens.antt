@@ -1,4 +1,8 @@
-use Rattle.std.specs.Prelude.{ℕ, ◌-◌, Bool, cond, ◌&&◌, ◌||◌, List, Some, None, Option, ◌==◌, nat_le}
+use Rattle.std.specs.Prelude.{ℕ, Bool, cond, ◌&&◌, ◌||◌, List, Some, None, Option, ◌==◌, nat_le}
+use Rattle.machine.specs.Banks.{bank_of, bank_index}
+use Rattle.machine.specs.Opmasks.{opmask_named}
+use Rattle.machine.specs.declared.bank.Bank.{Bank}
+use Rattle.machine.specs.declared.bank.Bank.TheVariants as bank
 use Rattle.listing.specs.Making.{named_of}
 use Rattle.listing.specs.declared.token.Decoration.{Decoration}
 use Rattle.listing.specs.declared.token.Decoration.TheVariants.{Mask}
@@ -25,6 +29,11 @@ mark_of b =
     cond (b == 58) (Some Colon) (
     cond (b == 47) (Some Slash) None)))))))
 
+-- the mask that a place in a bank is: K1 to K7
+abbrev pub mask_at : Option Bank → ℕ → Option Decoration
+mask_at (Some bank.Mask) n = cond (n == 0) None (elim (opmask_named n) [ Some k ↦ Some (Mask k) | None ↦ None ])
+mask_at _ n = None
+
 -- the mask K1 to K7 that a name is
 abbrev pub mask_of : List ℕ → Option Decoration
-mask_of w = elim (named_of w) [ Some n ↦ cond (nat_le 174 n && nat_le n 180) (Some (Mask (n - 173))) None | None ↦ None ]
+mask_of w = elim (named_of w) [ Some x ↦ mask_at (bank_of x.number) (bank_index x.number) | None ↦ None ]

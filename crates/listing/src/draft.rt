@@ -1,4 +1,5 @@
 use super::line::{Asked, Line};
+use machine::{Register, Segment};
 
 // What may come next on a line.
 #[derive(Clone, Copy)]
@@ -7,18 +8,18 @@ pub(crate) enum Stage {
     Mode,
     Address,
     // the line is complete
-    Done,
+    Done(Line),
     Operand,
     // the number behind a minus
     Negative,
     // behind a register, which may turn out to be a segment
-    Register(u8),
+    Register(Register),
     // memory behind a segment
-    Open,
+    Open(Segment),
     // a part of an address; the flag says that a minus is before it
     Term(bool),
     // behind a register of an address
-    Held(u8),
+    Held(Register),
     Factor,
     // behind another part of an address
     Close,
@@ -29,11 +30,10 @@ pub(crate) enum Stage {
     After,
 }
 
-// What the words so far say.
+// What the words so far say, and the column of the next.
 #[derive(Clone, Copy)]
 pub(crate) struct Draft {
     pub(crate) stage: Stage,
-    pub(crate) said: Line,
-    pub(crate) has_memory: bool,
+    pub(crate) column: usize,
     pub(crate) asked: Asked,
 }

@@ -1,61 +1,37 @@
 // How one thing more goes into a draft; none where another was expected.
 ghost use Rattle.std.specs.Prelude.{◌≡◌};
-ghost use Rattle.listing.specs.Drafts.{negated_of, placed_of, put_of, dressed_of, wanted_of, finish_of};
+ghost use Rattle.listing.specs.Drafts.{negated_of, put_of, dressed_of, wanted_of, fault_of, finish_of};
 
 use super::draft::{Draft, Stage};
-use super::line::{Asked, Dress, Given, Line, Places};
+use super::line::{Asked, Dress, Given, Line};
 use super::line_fault::{ListingFault, Wanted};
+use super::making::count;
 use super::token::{Decoration, Mark, Token};
+use machine::{Code, Mode, Opmask, RoundingControl};
 
 // a number behind a minus, by two's complement
 pub(crate) fn negated(number: u64) -> Option<u64>
     ensures { result ≡ negated_of number }
 {
-    if number == 0 {
-        Some(0)
-    } else if number <= 0x8000_0000_0000_0000 {
-        Some(0xFFFF_FFFF_FFFF_FFFF - number + 1)
-    } else {
-        None
-    }
-}
-
-impl Places {
-    // with an operand at a place; the fifth is a number
-    fn with(self, place: u8, given: Given) -> Option<Places>
-        ensures { result ≡ placed_of self place given }
-    {
-        match place {
-            0 => Some(Places { op0: given, ..self }),
-            1 => Some(Places { op1: given, ..self }),
-            2 => Some(Places { op2: given, ..self }),
-            3 => Some(Places { op3: given, ..self }),
-            4 => match given {
-                Given::Number(_) => Some(Places { op4: given, ..self }),
-                _ => None,
-            },
-            _ => None,
-        }
-    }
+    (number <= 0x8000_0000_0000_0000).then(|| number.wrapping_neg())
 }
 
 impl Asked {
-    // with one operand more
+    // with one operand more; the fifth is a number
     fn put(self, given: Given, column: usize) -> Option<Asked>
         ensures { result ≡ put_of self given column }
     {
-        if self.count > 4 {
+        let place = count(&self.operands);
+        if place > 4 || place == 4 && !matches!(given, Given::Number(_)) {
             return None;
         }
-        match self.places.with(self.count, given) {
-            Some(places) => Some(Asked {
-                count: self.count + 1,
-                column,
-                places,
-                ..self
-            }),
-            None => None,
-        }
+        let mut operands = self.operands;
+        operands[place] = Some(given);
+        Some(Asked {
+            column,
+            operands,
+            ..self
+        })
     }
 }
 
@@ -65,7 +41,10 @@ impl Dress {
         ensures { result ≡ dressed_of self decoration }
     {
         match decoration {
-            Decoration::Mask(opmask) if self.opmask == 0 => Some(Dress { opmask, ..self }),
+            Decoration::Mask(opmask) if matches!(self.opmask, Opmask::Unmasked) => Some(Dress {
+                opmask,
+                ..self
+            }),
             Decoration::Zeroing => Some(Dress {
                 zeroing: true,
                 ..self
@@ -75,10 +54,8 @@ impl Dress {
                 ..self
             }),
             Decoration::Sae => Some(Dress { sae: true, ..self }),
-            Decoration::Rounding(rounding) if self.rounding == 0 => Some(Dress {
-                rounding,
-                ..self
-            }),
+            Decoration::Rounding(rounding) if matches!(self.rounding, RoundingControl::Unstated) =>
+                Some(Dress { rounding, ..self }),
             _ => None,
         }
     }
@@ -86,25 +63,23 @@ impl Dress {
 
 impl Stage {
     // what is expected there
-    pub(crate) fn wanted(self) -> Wanted
+    fn wanted(self) -> Wanted
         ensures { result ≡ wanted_of self }
     {
         match self {
             Stage::First => Wanted::First,
             Stage::Mode => Wanted::Mode,
             Stage::Address => Wanted::Address,
-            Stage::Done => Wanted::End,
+            Stage::Done(_) => Wanted::End,
             Stage::Operand => Wanted::Operand,
             Stage::Negative => Wanted::Number,
-            Stage::Register(_) => Wanted::Comma,
-            Stage::Open => Wanted::Open,
+            Stage::Register(_) | Stage::Memory | Stage::After => Wanted::Comma,
+            Stage::Open(_) => Wanted::Open,
             Stage::Term(_) => Wanted::Term,
             Stage::Held(_) => Wanted::Target,
             Stage::Factor => Wanted::Factor,
             Stage::Close => Wanted::Close,
-            Stage::Memory => Wanted::Comma,
             Stage::Size => Wanted::Size,
-            Stage::After => Wanted::Comma,
         }
     }
 }
@@ -115,11 +90,13 @@ impl Draft {
         Draft { stage, ..self }
     }
 
-    fn said(self, said: Line) -> Draft {
-        Draft {
-            stage: Stage::Done,
-            said,
-            ..self
+    // what is wrong where the next thing is not the expected one
+    pub(crate) fn fault(self) -> ListingFault
+        ensures { result ≡ fault_of self }
+    {
+        ListingFault {
+            column: self.column,
+            wanted: self.stage.wanted(),
         }
     }
 
@@ -127,10 +104,10 @@ impl Draft {
         match token {
             Token::Mode => Some(self.at(Stage::Mode)),
             Token::At => Some(self.at(Stage::Address)),
-            Token::Number(number) if number <= 0xFFFF => Some(Draft {
+            Token::Number(number) => Some(Draft {
                 stage: Stage::Operand,
                 asked: Asked {
-                    number: number as u16,
+                    number: u16::try_from(number).ok()?,
                     ..self.asked
                 },
                 ..self
@@ -141,49 +118,45 @@ impl Draft {
 
     // the number behind mode or at
     fn setting(self, token: Token) -> Option<Draft> {
-        match (self.stage, token) {
-            (Stage::Mode, Token::Number(16)) => Some(self.said(Line::Mode(16))),
-            (Stage::Mode, Token::Number(32)) => Some(self.said(Line::Mode(32))),
-            (Stage::Mode, Token::Number(64)) => Some(self.said(Line::Mode(64))),
-            (Stage::Address, Token::Number(address)) => Some(self.said(Line::At(address))),
-            _ => None,
-        }
+        let said = match (self.stage, token) {
+            (Stage::Mode, Token::Number(bits)) => Line::Mode(Mode::from_number(u8::try_from(
+                bits,
+            ).ok()?)?),
+            (Stage::Address, Token::Number(address)) => Line::At(address),
+            _ => return None,
+        };
+        Some(self.at(Stage::Done(said)))
     }
 
-    pub(crate) fn put(self, given: Given, stage: Stage, column: usize) -> Option<Draft> {
-        match self.asked.put(given, column) {
-            Some(asked) => Some(Draft {
-                stage,
-                asked,
-                ..self
-            }),
-            None => None,
-        }
+    // with one operand more
+    pub(crate) fn put(self, given: Given) -> Option<Draft> {
+        Some(Draft {
+            asked: self.asked.put(given, self.column)?,
+            ..self
+        })
     }
 
     // the begin of an operand
-    fn operand(self, token: Token, column: usize) -> Option<Draft> {
+    fn operand(self, token: Token) -> Option<Draft> {
         match token {
-            Token::Number(number) => self.put(Given::Number(number), Stage::After, column),
-            Token::Register(register) => self.put(
-                Given::Register(register),
-                Stage::Register(register),
-                column,
-            ),
+            Token::Number(number) => Some(self.put(Given::Number(number))?.at(Stage::After)),
+            Token::Register(register) => {
+                let draft = self.put(Given::Register(register))?;
+                Some(draft.at(Stage::Register(register)))
+            }
             Token::Mark(Mark::Minus) => Some(self.at(Stage::Negative)),
-            Token::Mark(Mark::Open) => self.open(column),
-            Token::Size => Some(self.at(Stage::Operand)),
+            Token::Mark(Mark::Open) => self.open(None),
+            Token::Size => Some(self),
             _ => None,
         }
     }
 
-    fn negative(self, token: Token, column: usize) -> Option<Draft> {
+    fn negative(self, token: Token) -> Option<Draft> {
         match token {
-            Token::Number(number) => self.put(
-                Given::Number(negated(number)?),
-                Stage::After,
-                column,
-            ),
+            Token::Number(number) => {
+                let draft = self.put(Given::Number(negated(number)?))?;
+                Some(draft.at(Stage::After))
+            }
             _ => None,
         }
     }
@@ -191,58 +164,48 @@ impl Draft {
     // behind an operand
     pub(crate) fn after(self, token: Token) -> Option<Draft> {
         match token {
-            Token::Mark(Mark::Comma) if self.asked.count < 5 => Some(self.at(Stage::Operand)),
-            Token::Decoration(decoration) => {
-                let dress = self.asked.dress.with(decoration)?;
-                Some(Draft {
-                    stage: Stage::After,
-                    asked: Asked {
-                        dress,
-                        ..self.asked
-                    },
-                    ..self
-                })
-            }
+            Token::Mark(Mark::Comma) if count(&self.asked.operands) < 5 => Some(self.at(
+                Stage::Operand,
+            )),
+            Token::Decoration(decoration) => Some(Draft {
+                stage: Stage::After,
+                asked: Asked {
+                    dress: self.asked.dress.with(decoration)?,
+                    ..self.asked
+                },
+                ..self
+            }),
             _ => None,
         }
     }
 
-    fn taken(self, token: Token, column: usize) -> Option<Draft> {
+    fn taken(self, token: Token) -> Option<Draft> {
         match self.stage {
             Stage::First => self.first(token),
             Stage::Mode | Stage::Address => self.setting(token),
-            Stage::Done => None,
-            Stage::Operand => self.operand(token, column),
-            Stage::Negative => self.negative(token, column),
+            Stage::Done(_) => None,
+            Stage::Operand => self.operand(token),
+            Stage::Negative => self.negative(token),
             Stage::After => self.after(token),
-            _ => self.memory_step(token, column),
+            _ => self.memory_step(token),
         }
     }
 
-    // one thing more, at a column
-    pub(crate) fn step(self, token: Token, column: usize) -> Result<Draft, ListingFault> {
-        match self.taken(token, column) {
-            Some(draft) => Ok(draft),
-            None => Err(ListingFault {
-                column,
-                wanted: self.stage.wanted(),
-            }),
-        }
+    // one thing more, at the draft's column
+    pub(crate) fn step(self, token: Token) -> Result<Draft, ListingFault> {
+        self.taken(token).ok_or(self.fault())
     }
 
-    // the line, where it may end at a column
-    pub(crate) fn finish(self, column: usize) -> Result<Line, ListingFault>
-        ensures { result ≡ finish_of self column }
+    // what the line says, where it may end; nothing where nothing stands on it
+    pub(crate) fn finish(self) -> Result<Option<Line>, ListingFault>
+        ensures { result ≡ finish_of self }
     {
         match self.stage {
-            Stage::First => Ok(Line::Nothing),
-            Stage::Done => Ok(self.said),
-            Stage::Operand if self.asked.count == 0 => Ok(Line::Asked(self.asked)),
-            Stage::Register(_) | Stage::Memory | Stage::After => Ok(Line::Asked(self.asked)),
-            _ => Err(ListingFault {
-                column,
-                wanted: self.stage.wanted(),
-            }),
+            Stage::First => Ok(None),
+            Stage::Done(said) => Ok(Some(said)),
+            Stage::Operand if count(&self.asked.operands) == 0 => Ok(Some(Line::Asked(self.asked))),
+            Stage::Register(_) | Stage::Memory | Stage::After => Ok(Some(Line::Asked(self.asked))),
+            _ => Err(self.fault()),
         }
     }
 }

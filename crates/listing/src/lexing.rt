@@ -1,44 +1,38 @@
 // The next thing on a line.
-ghost use Rattle.std.specs.Prelude.{◌≡◌};
+ghost use Rattle.std.specs.Prelude.{◌≡◌, ◌+◌, ◌<◌, ◌≤◌, length, IfSome};
 ghost use Rattle.listing.specs.Tokens.{word_byte, blank_byte, mark_of, mask_of};
 
 use super::digits::number;
 use super::names::register;
 use super::token::{Decoration, Mark, Token};
+use machine::{Bank, Code, Opmask, RoundingControl};
 
 fn in_word(byte: u8) -> bool
     ensures { result ≡ word_byte byte }
 {
-    b'0' <= byte && byte <= b'9'
-        || b'A' <= byte && byte <= b'Z'
-        || b'a' <= byte && byte <= b'z'
-        || byte == b'_'
+    byte.is_ascii_alphanumeric() || byte == b'_'
 }
 
 fn blank(byte: u8) -> bool
     ensures { result ≡ blank_byte byte }
 {
-    byte == b' ' || byte == b'\t' || byte == b'\r' || byte == b'\n'
+    matches!(byte, b' ' | b'\t' | b'\r' | b'\n')
 }
 
-// the place after the word from a place on
-fn word_end(line: &[u8], from: usize) -> usize {
-    for at in from..line.len() {
-        if !in_word(line[at]) {
-            return at;
-        }
-    }
-    line.len()
+// the bytes of a kind that a line begins with, and the rest of it
+fn run<F: Fn(u8) -> bool>(line: &[u8], of_kind: F) -> (&[u8], &[u8])
+    requires { F.IsAlwaysCallable of_kind }
+    ensures { length result.0.now + length result.1.now ≡ length line.now }
+{
+    let end = line.iter().take_while(|byte| of_kind(**byte)).count();
+    line.split_at(end)
 }
 
-// the place after the blanks from a place on
-pub(crate) fn blanks_end(line: &[u8], from: usize) -> usize {
-    for at in from..line.len() {
-        if !blank(line[at]) {
-            return at;
-        }
-    }
-    line.len()
+// a line without the blanks that it begins with
+pub(crate) fn after_blanks(line: &[u8]) -> &[u8]
+    ensures { length result.now ≤ length line.now }
+{
+    run(line, blank).1
 }
 
 fn mark(byte: u8) -> Option<Mark>
@@ -62,10 +56,10 @@ fn decoration(word: &[u8]) -> Option<Decoration> {
         b"z" => Some(Decoration::Zeroing),
         b"bcst" => Some(Decoration::Broadcast),
         b"sae" => Some(Decoration::Sae),
-        b"rn" => Some(Decoration::Rounding(1)),
-        b"rd" => Some(Decoration::Rounding(2)),
-        b"ru" => Some(Decoration::Rounding(3)),
-        b"rz" => Some(Decoration::Rounding(4)),
+        b"rn" => Some(Decoration::Rounding(RoundingControl::ToNearest)),
+        b"rd" => Some(Decoration::Rounding(RoundingControl::Down)),
+        b"ru" => Some(Decoration::Rounding(RoundingControl::Up)),
+        b"rz" => Some(Decoration::Rounding(RoundingControl::TowardZero)),
         _ => mask(word),
     }
 }
@@ -74,8 +68,9 @@ fn decoration(word: &[u8]) -> Option<Decoration> {
 fn mask(word: &[u8]) -> Option<Decoration>
     ensures { result ≡ mask_of word.now }
 {
-    match register(word) {
-        Some(number) if number >= 174 && number <= 180 => Some(Decoration::Mask(number - 173)),
+    let register = register(word)?;
+    match (register.bank(), register.index()) {
+        (Some(Bank::Mask), number @ 1..) => Some(Decoration::Mask(Opmask::from_number(number)?)),
         _ => None,
     }
 }
@@ -96,28 +91,29 @@ fn word_token(word: &[u8]) -> Option<Token> {
     }
 }
 
-// what stands in braces from a place on, and the place after it
-fn braced(line: &[u8], from: usize) -> Option<(Token, usize)> {
-    let end = word_end(line, from);
-    if end >= line.len() || line[end] != b'}' {
-        return None;
-    }
-    let decoration = decoration(line.get(from..end)?)?;
-    Some((Token::Decoration(decoration), end + 1))
+// what stands in braces, behind the one that opens, and the rest of the line
+fn braced(line: &[u8]) -> Option<(Token, &[u8])>
+    ensures { IfSome result (λ p. length p.1.now ≤ length line.now) }
+{
+    let (word, rest) = run(line, in_word);
+    let rest = rest.strip_prefix(b"}")?;
+    Some((Token::Decoration(decoration(word)?), rest))
 }
 
-// the token at a place, and the place after it
-pub(crate) fn token_at(line: &[u8], at: usize) -> Option<(Token, usize)> {
-    if at >= line.len() {
+// the token that a line begins with, and the rest of the line
+pub(crate) fn next_token(line: &[u8]) -> Option<(Token, &[u8])>
+    ensures { IfSome result (λ p. length p.1.now < length line.now) }
+{
+    let (first, rest) = line.split_first()?;
+    if *first == b'{' {
+        return braced(rest);
+    }
+    if let Some(mark) = mark(*first) {
+        return Some((Token::Mark(mark), rest));
+    }
+    let (word, rest) = run(line, in_word);
+    if word.is_empty() {
         return None;
     }
-    if line[at] == b'{' {
-        return braced(line, at + 1);
-    }
-    if let Some(mark) = mark(line[at]) {
-        return Some((Token::Mark(mark), at + 1));
-    }
-    let end = word_end(line, at);
-    let token = word_token(line.get(at..end)?)?;
-    Some((token, end))
+    Some((word_token(word)?, rest))
 }

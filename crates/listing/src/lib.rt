@@ -26,5 +26,5 @@ mod names;
 mod parsing;
 mod token;
 
-pub use line::{Asked, Dress, Given, Line, Memory, Places};
+pub use line::{Asked, Dress, Given, Line, Memory};
 pub use line_fault::{ListingFault, Wanted};

@@ -1,104 +1,104 @@
 // The instruction that a line asks for, as numbers.
-ghost use Rattle.std.specs.Prelude.{◌≡◌};
-ghost use Rattle.listing.specs.Making.{expected_of, kind_of, register_of, displaced, imm_after, displ_with, displ_after, displ_of, raw_size, usual_size, size_of, count_of, first_imm, imm_of, first_displ, full_displ, shared_of, kinds_of, registers_of, fields_of, instruction_of};
+ghost use Rattle.std.specs.Prelude.{◌≡◌, ◌<◌};
+ghost use Rattle.listing.specs.Drafts.{count_of};
+ghost use Rattle.listing.specs.Making.{expected_of, kind_of, number_of, register_of, displaced, imm_after, displ_with, displ_after, raw_size, usual_size, size_of, by_place_of, slot_at, slots_of, imm_of, displ_of, memory_of, fields_of, instruction_of};
 
 use super::line::{Asked, Given, Memory};
 use super::line_fault::{ListingFault, Wanted};
 use instruction::RawInstruction;
-use machine::Code;
+use machine::{Bank, Code, OpKind, Register};
 use record::{Op, Operands};
+use std::array;
 
-// The kinds of the first four operands.
+// An operand that is asked for, and the record's at its place.
 #[derive(Clone, Copy)]
-struct Kinds {
-    op0: u8,
-    op1: u8,
-    op2: u8,
-    op3: u8,
+struct Slot {
+    given: Option<Given>,
+    op: Option<Op>,
 }
 
-// The registers of the first four operands.
-#[derive(Clone, Copy)]
-struct Registers {
-    op0: u8,
-    op1: u8,
-    op2: u8,
-    op3: u8,
-}
-
-// the kind that a number has at a record's operand
-fn expected(op: Option<Op>) -> u8
-    ensures { result ≡ expected_of op }
+// the number of a register, 0 where there is none
+fn number(register: Option<Register>) -> u8
+    ensures { result ≡ number_of register }
 {
-    match op {
-        Some(Op::Ib(kind)) => kind.number(),
-        Some(Op::Id(kind)) => kind.number(),
-        Some(Op::Iq) => 10,
-        Some(Op::J(kind, _)) => kind.number(),
-        _ => 6,
-    }
-}
-
-fn kind(given: Given, op: Option<Op>) -> u8
-    ensures { result ≡ kind_of given op }
-{
-    match given {
-        Given::Nothing => 0,
-        Given::Register(_) => 0,
-        Given::Number(_) => expected(op),
-        Given::Memory => 24,
-    }
-}
-
-fn register(given: Given) -> u8
-    ensures { result ≡ register_of given }
-{
-    match given {
-        Given::Register(number) => number,
-        _ => 0,
-    }
+    register.map_or(0, |register| register.number)
 }
 
 // whether a number of a kind stands in the displacement alone
-fn is_displaced(kind: u8) -> bool
+fn is_displaced(kind: OpKind) -> bool
     ensures { result ≡ displaced kind }
 {
-    1 <= kind && kind <= 3 || kind == 7
-}
-
-// the immediate after an operand
-fn immediate(before: u32, given: Given, op: Option<Op>) -> u32
-    ensures { result ≡ imm_after before given op }
-{
-    let Given::Number(number) = given else {
-        return before;
-    };
-    if is_displaced(expected(op)) {
-        before
-    } else {
-        (number % 0x1_0000_0000) as u32
-    }
+    matches!(
+        kind,
+        OpKind::NearBranch16
+            | OpKind::NearBranch32
+            | OpKind::NearBranch64
+            | OpKind::Immediate8Second
+    )
 }
 
 // what a number of a kind leaves in the displacement
-fn displaced_by(kind: u8, number: u64, before: u64) -> u64
+fn displaced_by(kind: OpKind, number: u64, before: u64) -> u64
     ensures { result ≡ displ_with kind number before }
 {
     match kind {
-        1..=3 => number,
-        7 => number % 256,
-        10 => number / 0x1_0000_0000,
+        OpKind::NearBranch16 | OpKind::NearBranch32 | OpKind::NearBranch64 => number,
+        OpKind::Immediate8Second => number % 256,
+        OpKind::Immediate64 => number / 0x1_0000_0000,
         _ => before,
     }
 }
 
-// the displacement after an operand
-fn displacement(before: u64, given: Given, op: Option<Op>) -> u64
-    ensures { result ≡ displ_after before given op }
-{
-    match given {
-        Given::Number(number) => displaced_by(expected(op), number, before),
-        _ => before,
+impl Slot {
+    // the kind that a number has there
+    fn expected(&self) -> OpKind
+        ensures { result ≡ expected_of self.now.op }
+    {
+        match self.op {
+            Some(Op::Ib(kind) | Op::Id(kind) | Op::J(kind, _)) => kind,
+            Some(Op::Iq) => OpKind::Immediate64,
+            _ => OpKind::Immediate8,
+        }
+    }
+
+    fn kind(&self) -> OpKind
+        ensures { result ≡ kind_of self.now }
+    {
+        match self.given {
+            Some(Given::Number(_)) => self.expected(),
+            Some(Given::Memory) => OpKind::Memory,
+            _ => OpKind::Register,
+        }
+    }
+
+    fn register(&self) -> Option<Register>
+        ensures { result ≡ register_of self.now.given }
+    {
+        match self.given {
+            Some(Given::Register(register)) => Some(register),
+            _ => None,
+        }
+    }
+
+    // the immediate after the operand
+    fn immediate(&self, before: u32) -> u32
+        ensures { result ≡ imm_after before self.now }
+    {
+        match self.given {
+            Some(Given::Number(number)) if !is_displaced(self.expected()) => (number
+                % 0x1_0000_0000) as u32,
+            _ => before,
+        }
+    }
+
+    // the displacement after the operand
+    fn displacement(&self, before: u64) -> u64
+        ensures { result ≡ displ_after before self.now }
+    {
+        match self.given {
+            Some(Given::Number(number)) => displaced_by(self.expected(), number, before),
+            _ => before,
+        }
     }
 }
 
@@ -113,173 +113,131 @@ fn raw_size(size: u8) -> u8
 }
 
 impl Memory {
-    fn displacement(&self) -> u64
-        ensures { result ≡ displ_of self.now }
-    {
-        match self.displ {
-            Some(displ) => displ,
-            None => 0,
-        }
-    }
-
     // the number of the size where none is asked for
     fn usual_size(&self, mode: u8) -> u8
         ensures { result ≡ usual_size mode self.now }
     {
-        if self.base == 69 || self.base == 70 {
-            return 0;
-        }
-        if self.base == 0 && self.index == 0 {
-            return match mode {
+        match (self.base, self.index) {
+            (Some(base), _) if matches!(base.bank(), Some(Bank::Ip)) => 0,
+            (None, None) => match mode {
                 16 => 2,
                 32 => 3,
                 _ => 4,
-            };
-        }
-        match self.displ {
-            Some(_) => 1,
-            None => 0,
+            },
+            _ => self.displ.is_some() as u8,
         }
     }
 
     fn size(&self, mode: u8) -> u8
         ensures { result ≡ size_of mode self.now }
     {
-        match self.size {
-            Some(size) => raw_size(size),
-            None => self.usual_size(mode),
-        }
+        self.size.map_or(self.usual_size(mode), raw_size)
     }
 }
 
-// how many operands a record has
-fn count(operands: &Operands) -> u8
+// how many operands there are before the first place that has none
+pub(crate) fn count<T>(operands: &[Option<T>]) -> usize
     ensures { result ≡ count_of operands.now }
 {
-    match (
+    operands
+        .iter()
+        .take_while(|operand| operand.is_some())
+        .count()
+}
+
+// the operands of a record by place
+fn by_place(operands: &Operands) -> [Option<Op>; 5]
+    ensures { result ≡ by_place_of operands.now }
+{
+    [
         operands.op0,
         operands.op1,
         operands.op2,
         operands.op3,
         operands.op4,
-    ) {
-        (None, _, _, _, _) => 0,
-        (Some(_), None, _, _, _) => 1,
-        (Some(_), Some(_), None, _, _) => 2,
-        (Some(_), Some(_), Some(_), None, _) => 3,
-        (Some(_), Some(_), Some(_), Some(_), None) => 4,
-        (Some(_), Some(_), Some(_), Some(_), Some(_)) => 5,
-    }
+    ]
+}
+
+// the immediate after all operands
+fn immediate(slots: &[Slot]) -> u32
+    ensures { result ≡ imm_of slots.now }
+{
+    slots.iter().fold(0, |before, slot| slot.immediate(before))
+}
+
+// the displacement after all operands, where it was `before` at their begin
+fn displacement(before: u64, slots: &[Slot]) -> u64
+    ensures { result ≡ displ_of before slots.now }
+{
+    slots
+        .iter()
+        .fold(before, |before, slot| slot.displacement(before))
 }
 
 impl Asked {
-    // the immediate after the first three operands
-    fn first_immediate(&self, operands: &Operands) -> u32
-        ensures { result ≡ first_imm self.now operands.now }
+    // the operand at a place, beside the record's
+    fn slot(&self, ops: &[Option<Op>; 5], at: usize) -> Slot
+        requires { at < 5 }
+        ensures { result ≡ slot_at self.now ops.now at }
     {
-        let value = immediate(0, self.places.op0, operands.op0);
-        let value = immediate(value, self.places.op1, operands.op1);
-        immediate(value, self.places.op2, operands.op2)
-    }
-
-    fn immediate(&self, operands: &Operands) -> u32
-        ensures { result ≡ imm_of self.now operands.now }
-    {
-        let value = self.first_immediate(operands);
-        let value = immediate(value, self.places.op3, operands.op3);
-        immediate(value, self.places.op4, operands.op4)
-    }
-
-    // the displacement after the first three operands, where it was `before` at their begin
-    fn first_displacement(&self, before: u64, operands: &Operands) -> u64
-        ensures { result ≡ first_displ before self.now operands.now }
-    {
-        let value = displacement(before, self.places.op0, operands.op0);
-        let value = displacement(value, self.places.op1, operands.op1);
-        displacement(value, self.places.op2, operands.op2)
-    }
-
-    // the displacement after all operands
-    fn displacement(&self, before: u64, operands: &Operands) -> u64
-        ensures { result ≡ full_displ before self.now operands.now }
-    {
-        let value = self.first_displacement(before, operands);
-        let value = displacement(value, self.places.op3, operands.op3);
-        displacement(value, self.places.op4, operands.op4)
-    }
-
-    // what the displacement, a target, a second byte or a high half leave in one field
-    fn shared(&self, operands: &Operands) -> u64
-        ensures { result ≡ shared_of self.now operands.now }
-    {
-        self.displacement(self.memory.displacement(), operands)
-    }
-
-    fn kinds(&self, operands: &Operands) -> Kinds
-        ensures { result ≡ kinds_of self.now operands.now }
-    {
-        Kinds {
-            op0: kind(self.places.op0, operands.op0),
-            op1: kind(self.places.op1, operands.op1),
-            op2: kind(self.places.op2, operands.op2),
-            op3: kind(self.places.op3, operands.op3),
+        Slot {
+            given: self.operands[at],
+            op: ops[at],
         }
     }
 
-    fn registers(&self) -> Registers
-        ensures { result ≡ registers_of self.now }
+    fn slots(&self, ops: &[Option<Op>; 5]) -> [Slot; 5]
+        ensures { result ≡ slots_of self.now ops.now }
     {
-        Registers {
-            op0: register(self.places.op0),
-            op1: register(self.places.op1),
-            op2: register(self.places.op2),
-            op3: register(self.places.op3),
-        }
+        array::from_fn(|at| self.slot(ops, at))
     }
 
-    fn fields(&self, mode: u8, operands: &Operands) -> RawInstruction
-        ensures { result ≡ fields_of self.now mode operands.now }
+    fn fields(&self, mode: u8, slots: [Slot; 5]) -> RawInstruction
+        ensures { result ≡ fields_of self.now mode slots }
     {
-        let kinds = self.kinds(operands);
-        let registers = self.registers();
+        let memory = self.memory.unwrap_or(Memory::new(None));
+        let displ = memory.displ.unwrap_or(0);
+        let [op0, op1, op2, op3, _] = slots;
         RawInstruction {
             code_size: 0,
-            segment: self.memory.segment,
+            segment: memory.segment.map_or(0, |segment| segment.number()),
             lock: false,
             repe: false,
             repne: false,
-            base: self.memory.base,
-            index: self.memory.index,
-            scale: self.memory.scale,
-            displ_size: self.memory.size(mode),
-            mem_displ: self.shared(operands),
-            immediate: self.immediate(operands),
-            kind0: kinds.op0,
-            kind1: kinds.op1,
-            kind2: kinds.op2,
-            kind3: kinds.op3,
-            reg0: registers.op0,
-            reg1: registers.op1,
-            reg2: registers.op2,
-            reg3: registers.op3,
-            opmask: self.dress.opmask,
+            base: number(memory.base),
+            index: number(memory.index),
+            scale: memory.scale.number(),
+            displ_size: memory.size(mode),
+            mem_displ: displacement(displ, &slots),
+            immediate: immediate(&slots),
+            kind0: op0.kind().number(),
+            kind1: op1.kind().number(),
+            kind2: op2.kind().number(),
+            kind3: op3.kind().number(),
+            reg0: number(op0.register()),
+            reg1: number(op1.register()),
+            reg2: number(op2.register()),
+            reg3: number(op3.register()),
+            opmask: self.dress.opmask.number(),
             zeroing: self.dress.zeroing,
             broadcast: self.dress.broadcast,
             sae: self.dress.sae,
-            rounding: self.dress.rounding,
+            rounding: self.dress.rounding.number(),
         }
     }
 
-    // the instruction in a mode, its kinds by the record's operands; a fault where the record has fewer operands
+    // the instruction in a mode, its kinds by the record's operands; a fault where the record has fewer operands.
+    // The mode is a number, as `encode` takes it: one that no mode has counts as 64.
     pub fn instruction(&self, mode: u8, operands: &Operands) -> Result<RawInstruction, ListingFault>
         ensures { result ≡ instruction_of self.now mode operands.now }
     {
-        if self.count > count(operands) {
+        let ops = by_place(operands);
+        if count(&self.operands) > count(&ops) {
             return Err(ListingFault {
                 column: self.column,
                 wanted: Wanted::FewerOperands,
             });
         }
-        Ok(self.fields(mode, operands))
+        Ok(self.fields(mode, self.slots(&ops)))
     }
 }

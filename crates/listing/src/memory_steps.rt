@@ -1,48 +1,68 @@
 // The parts of a memory operand.
 ghost use Rattle.std.specs.Prelude.{◌≡◌};
-ghost use Rattle.listing.specs.Drafts.{factor_of, held_of, indexed_of, moved_of};
+ghost use Rattle.listing.specs.Drafts.{factor_of, vector, memory_at, held_of, indexed_of, moved_of};
 
 use super::draft::{Draft, Stage};
 use super::drafting::negated;
 use super::line::{Asked, Given, Memory};
 use super::token::{Mark, Token};
+use machine::{Bank, Code, Register, Scale, Segment};
 
-// the power of two that a factor is
-fn power(factor: u64) -> Option<u8>
+fn scale(factor: u64) -> Option<Scale>
     ensures { result ≡ factor_of factor }
 {
     match factor {
-        1 => Some(0),
-        2 => Some(1),
-        4 => Some(2),
-        8 => Some(3),
+        1 => Some(Scale::By1),
+        2 => Some(Scale::By2),
+        4 => Some(Scale::By4),
+        8 => Some(Scale::By8),
         _ => None,
     }
 }
 
+fn is_vector(register: Register) -> bool
+    ensures { result ≡ vector register }
+{
+    matches!(register.bank(), Some(Bank::Xmm | Bank::Ymm | Bank::Zmm))
+}
+
 impl Memory {
+    // in a segment, with nothing else said yet
+    pub(crate) fn new(segment: Option<Segment>) -> Memory
+        ensures { result ≡ memory_at segment }
+    {
+        Memory {
+            segment,
+            base: None,
+            index: None,
+            scale: Scale::By1,
+            displ: None,
+            size: None,
+        }
+    }
+
     // with an index
-    fn indexed(self, register: u8) -> Option<Memory>
+    fn indexed(self, register: Register) -> Option<Memory>
         ensures { result ≡ indexed_of self register }
     {
-        if self.index != 0 {
+        if self.index.is_some() {
             return None;
         }
         Some(Memory {
-            index: register,
+            index: Some(register),
             ..self
         })
     }
 
     // with a register that has no factor: a vector is the index, else the first is the base
-    fn holding(self, register: u8) -> Option<Memory>
+    fn holding(self, register: Register) -> Option<Memory>
         ensures { result ≡ held_of self register }
     {
-        if 77 <= register && register <= 172 || self.base != 0 {
+        if is_vector(register) || self.base.is_some() {
             return self.indexed(register);
         }
         Some(Memory {
-            base: register,
+            base: Some(register),
             ..self
         })
     }
@@ -51,22 +71,32 @@ impl Memory {
     fn moved(self, displ: u64) -> Option<Memory>
         ensures { result ≡ moved_of self displ }
     {
-        match self.displ {
-            Some(_) => None,
-            None => Some(Memory {
-                displ: Some(displ),
-                ..self
-            }),
+        if self.displ.is_some() {
+            return None;
         }
+        Some(Memory {
+            displ: Some(displ),
+            ..self
+        })
+    }
+}
+
+impl Asked {
+    // without its last operand
+    fn without_last(self) -> Asked {
+        let mut operands = self.operands;
+        if let Some(last) = operands.iter_mut().rev().find(|operand| operand.is_some()) {
+            *last = None;
+        }
+        Asked { operands, ..self }
     }
 }
 
 impl Draft {
-    fn with_memory(self, memory: Memory, stage: Stage) -> Draft {
+    fn with_memory(self, memory: Memory) -> Draft {
         Draft {
-            stage,
             asked: Asked {
-                memory,
+                memory: Some(memory),
                 ..self.asked
             },
             ..self
@@ -74,30 +104,20 @@ impl Draft {
     }
 
     // the bracket that opens an address
-    pub(crate) fn open(self, column: usize) -> Option<Draft> {
-        if self.has_memory {
+    pub(crate) fn open(self, segment: Option<Segment>) -> Option<Draft> {
+        if self.asked.memory.is_some() {
             return None;
         }
-        let draft = Draft {
-            has_memory: true,
-            ..self
-        };
-        draft.put(Given::Memory, Stage::Term(false), column)
+        let draft = self.with_memory(Memory::new(segment));
+        Some(draft.put(Given::Memory)?.at(Stage::Term(false)))
     }
 
     // behind a register that is an operand, or the segment of one
-    fn register(self, register: u8, token: Token) -> Option<Draft> {
-        match token {
-            Token::Mark(Mark::Colon) if 71 <= register && register <= 76 => Some(Draft {
-                stage: Stage::Open,
-                asked: Asked {
-                    count: self.asked.count.saturating_sub(1),
-                    memory: Memory {
-                        segment: register,
-                        ..self.asked.memory
-                    },
-                    ..self.asked
-                },
+    fn register(self, register: Register, token: Token) -> Option<Draft> {
+        match (Segment::from_number(register.number), token) {
+            (Some(segment), Token::Mark(Mark::Colon)) => Some(Draft {
+                stage: Stage::Open(segment),
+                asked: self.asked.without_last(),
                 ..self
             }),
             _ => self.after(token),
@@ -105,11 +125,11 @@ impl Draft {
     }
 
     fn term(self, minus: bool, token: Token) -> Option<Draft> {
-        let memory = self.asked.memory;
+        let memory = self.asked.memory?;
         match token {
             Token::Number(number) => {
                 let displ = if minus { negated(number)? } else { number };
-                Some(self.with_memory(memory.moved(displ)?, Stage::Close))
+                Some(self.with_memory(memory.moved(displ)?).at(Stage::Close))
             }
             Token::Register(register) if !minus && memory.holding(register).is_some() => Some(
                 self.at(Stage::Held(register)),
@@ -119,21 +139,18 @@ impl Draft {
     }
 
     // behind a register of an address
-    fn held(self, register: u8, token: Token) -> Option<Draft> {
-        let memory = self.asked.memory;
-        match token {
-            Token::Mark(Mark::Times) => Some(self.with_memory(
-                memory.indexed(register)?,
-                Stage::Factor,
-            )),
-            Token::Number(target) if register == 69 || register == 70 => {
+    fn held(self, register: Register, token: Token) -> Option<Draft> {
+        let memory = self.asked.memory?;
+        match (register.bank(), token) {
+            (_, Token::Mark(Mark::Times)) => {
+                let draft = self.with_memory(memory.indexed(register)?);
+                Some(draft.at(Stage::Factor))
+            }
+            (Some(Bank::Ip), Token::Number(target)) => {
                 let memory = memory.holding(register)?;
-                Some(self.with_memory(memory.moved(target)?, Stage::Close))
+                Some(self.with_memory(memory.moved(target)?).at(Stage::Close))
             }
-            _ => {
-                let draft = self.with_memory(memory.holding(register)?, Stage::Close);
-                draft.close(token)
-            }
+            _ => self.with_memory(memory.holding(register)?).close(token),
         }
     }
 
@@ -141,10 +158,10 @@ impl Draft {
         match token {
             Token::Number(factor) => {
                 let memory = Memory {
-                    scale: power(factor)?,
-                    ..self.asked.memory
+                    scale: scale(factor)?,
+                    ..self.asked.memory?
                 };
-                Some(self.with_memory(memory, Stage::Close))
+                Some(self.with_memory(memory).at(Stage::Close))
             }
             _ => None,
         }
@@ -164,20 +181,20 @@ impl Draft {
         match token {
             Token::Number(size) if matches!(size, 0 | 1 | 2 | 4 | 8) => {
                 let memory = Memory {
-                    size: Some((size % 16) as u8),
-                    ..self.asked.memory
+                    size: u8::try_from(size).ok(),
+                    ..self.asked.memory?
                 };
-                Some(self.with_memory(memory, Stage::After))
+                Some(self.with_memory(memory).at(Stage::After))
             }
             _ => None,
         }
     }
 
     // one thing more of a memory operand, or behind a register
-    pub(crate) fn memory_step(self, token: Token, column: usize) -> Option<Draft> {
+    pub(crate) fn memory_step(self, token: Token) -> Option<Draft> {
         match (self.stage, token) {
             (Stage::Register(register), _) => self.register(register, token),
-            (Stage::Open, Token::Mark(Mark::Open)) => self.open(column),
+            (Stage::Open(segment), Token::Mark(Mark::Open)) => self.open(Some(segment)),
             (Stage::Term(minus), _) => self.term(minus, token),
             (Stage::Held(register), _) => self.held(register, token),
             (Stage::Factor, _) => self.factor(token),

@@ -1,11 +1,13 @@
+use machine::{Opmask, Register, RoundingControl};
+
 // What stands in braces, one at a time.
 #[derive(Clone, Copy)]
 pub(crate) enum Decoration {
-    Mask(u8),
+    Mask(Opmask),
     Zeroing,
     Broadcast,
     Sae,
-    Rounding(u8),
+    Rounding(RoundingControl),
 }
 
 // A mark of one byte.
@@ -25,7 +27,7 @@ pub(crate) enum Mark {
 #[derive(Clone, Copy)]
 pub(crate) enum Token {
     Number(u64),
-    Register(u8),
+    Register(Register),
     Mark(Mark),
     Decoration(Decoration),
     // a word for the size of an operand, which says nothing
