@@ -1,12 +1,12 @@
 // A whole row.
-ghost use Rattle.std.specs.Prelude.{◌≡◌, ◌<◌, ◌≤◌, length};
-ghost use Rattle.text.specs.Rows.{empty_draft, finish_of, word_end, draft_of, row_of};
+ghost use Rattle.std.specs.Prelude.{◌≡◌};
+ghost use Rattle.text.specs.Rows.{empty_draft, finish_of, draft_of, row_of};
 
-use super::bytes::{Stop, scan};
 use super::code_part::{CodePart, FlagPart};
 use super::draft::{Draft, Section};
 use super::row::{Row, Span};
 use super::row_fault::{RowFault, Wanted};
+use super::word::{word_begin, word_end};
 use machine::CodeSize;
 use record::{EncFlags3, Head, LegacyHead, Operands, RawRecord};
 
@@ -91,30 +91,16 @@ impl Draft {
     }
 }
 
-// the place after the word that begins at a place; a bar is a word of its own
-fn end_of(line: &[u8], at: usize) -> usize
-    requires { at < length line.now }
-    ensures place { result ≡ word_end line.now at }
-    ensures forward { at < result }
-    ensures within { result ≤ length line.now }
-{
-    if line[at] == b'|' {
-        at + 1
-    } else {
-        scan(line, at + 1, Stop::End)
-    }
-}
-
 // all that the words of a line say
 fn drafted(line: &[u8]) -> Result<Draft, RowFault>
     ensures { result ≡ draft_of line.now }
 {
     let mut draft = Draft::new();
-    let mut at = scan(line, 0, Stop::Word);
+    let mut at = word_begin(line, 0);
     while at < line.len() {
-        let to = end_of(line, at);
-        draft = draft.step(&line[at..to], at, to)?;
-        at = scan(line, to, Stop::Word);
+        let to = word_end(line, at);
+        draft = draft.step(&line[at..to], Span { from: at, to })?;
+        at = word_begin(line, to);
     }
     Ok(draft)
 }
