@@ -1,9 +1,8 @@
-use Rattle.std.specs.Prelude.{ℕ, ◌+◌, cond, List, Some, None, Ok, Err, codes, Option, Result, ◌==◌, nat_lt}
+use Rattle.std.specs.Prelude.{ℕ, ◌+◌, cond, List, Some, None, Ok, Err, codes, Option, Result, ◌==◌, nat_lt, slice_set}
 use Rattle.std.specs.Str.{bytes_eq}
 use Rattle.record.specs.declared.head.Head as heads
 use Rattle.record.specs.declared.head.Head.TheVariants.{Legacy, Vex, Evex}
 use Rattle.record.specs.declared.op.Op.{Op}
-use Rattle.record.specs.declared.op.Operands as places
 use Rattle.text.specs.Words.{key_of, mark_of, arg_of}
 use Rattle.text.specs.CodeWords.{code_named, code_word}
 use Rattle.text.specs.FlagWords.{flag_word}
@@ -36,18 +35,6 @@ section_wanted Operands n h = want.OperandWord
 abbrev pub wanted_of : Draft → wants.Wanted
 wanted_of d = section_wanted d.section d.words d.head
 
-abbrev five_places : Option Op → Option Op → Option Op → Option Op → Option Op → places.Operands
-five_places a b c d e = record { op0 = a; op1 = b; op2 = c; op3 = d; op4 = e }
-
--- the operands with one put at a place, none past the fifth
-abbrev pub put_operand : places.Operands → ℕ → Option Op → Option places.Operands
-put_operand o p x =
-    cond (p == 0) (Some (five_places x o.op1 o.op2 o.op3 o.op4)) (
-    cond (p == 1) (Some (five_places o.op0 x o.op2 o.op3 o.op4)) (
-    cond (p == 2) (Some (five_places o.op0 o.op1 x o.op3 o.op4)) (
-    cond (p == 3) (Some (five_places o.op0 o.op1 o.op2 x o.op4)) (
-    cond (p == 4) (Some (five_places o.op0 o.op1 o.op2 o.op3 x)) None))))
-
 abbrev pub with_name : Draft → Span → Draft
 with_name d p = record d { words = more_words d.words; name = record { from = cond (d.words == 0) p.from d.name.from; to = p.to } }
 
@@ -69,11 +56,9 @@ with_flags d w = elim (flag_word d.flags (key_of w) (mark_of w) (arg_of w)) [
   | None ↦ None
 ]
 
+-- with an operand or none put at the next place, none past the fifth
 abbrev placed : Draft → Option Op → Option Draft
-placed d x = elim (put_operand d.operands d.words x) [
-  | Some o ↦ Some (record d { words = more_words d.words; operands = o })
-  | None ↦ None
-]
+placed d x = cond (nat_lt d.words 5) (Some (record d { words = more_words d.words; operands = slice_set d.operands d.words x })) None
 
 -- with an operand, or with an empty place for `-`
 abbrev pub with_operand : Draft → List ℕ → Option Draft

@@ -1,6 +1,7 @@
-use Rattle.std.specs.Prelude.{ℕ, zero, suc, ◌+◌, false, cond, List, length, negsuc, None, Ok, Err, Result, nat_le, slice_range}
+use Rattle.std.specs.Prelude.{ℕ, zero, suc, ◌+◌, false, cond, List, length, replicate, negsuc, None, Ok, Err, Option, Result, nat_le, slice_index_or, slice_range}
 use Rattle.machine.specs.declared.code_size.CodeSize.TheVariants.{Unknown}
 use Rattle.record.specs.declared.head.Head.TheVariants.{Legacy}
+use Rattle.record.specs.declared.op.Op.{Op}
 use Rattle.record.specs.declared.raw.RawRecord.{RawRecord}
 use Rattle.text.specs.Drafts.{step_of}
 use Rattle.text.specs.Words.{word_begin, word_end}
@@ -20,8 +21,11 @@ empty_draft = record {
   head = Legacy record { table_byte1 = 0; table_byte2 = 0; mandatory_prefix = 0 };
   code = record { op_code = 0; is_2byte = false; group = negsuc 0; rm_group = negsuc 0 };
   flags = record { bits = 0; op_size = Unknown; addr_size = Unknown; n = 1; nb = 1 };
-  operands = record { op0 = None; op1 = None; op2 = None; op3 = None; op4 = None };
+  operands = replicate 5 None;
 }
+
+abbrev nth : Draft → ℕ → Option Op
+nth d p = slice_index_or d.operands p None
 
 abbrev raw_of : Draft → RawRecord
 raw_of d = record {
@@ -35,7 +39,7 @@ raw_of d = record {
   is_2byte_opcode = d.code.is_2byte;
   n = d.flags.n;
   nb = d.flags.nb;
-  operands = d.operands;
+  operands = record { op0 = nth d 0; op1 = nth d 1; op2 = nth d 2; op3 = nth d 3; op4 = nth d 4 };
 }
 
 abbrev finish_in : Section → Draft → ℕ → Result Row RowFault

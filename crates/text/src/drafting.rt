@@ -1,6 +1,6 @@
 // A row's draft, word by word.
 ghost use Rattle.std.specs.Prelude.{◌≡◌, ◌<◌};
-ghost use Rattle.text.specs.Drafts.{more_words, wanted_of, put_operand, with_name, with_head, with_code, with_flags, with_operand, bar_after, word_after, step_of};
+ghost use Rattle.text.specs.Drafts.{wanted_of, with_name, with_head, with_code, with_flags, with_operand, bar_after, word_after, step_of};
 
 use super::code_words::{code_named, code_word};
 use super::draft::{Draft, Section};
@@ -10,42 +10,7 @@ use super::operand_words::operand_word;
 use super::row::Span;
 use super::row_fault::{RowFault, Wanted};
 use super::word::Word;
-use record::{Head, Op, Operands};
-
-fn more(words: u8) -> u8
-    ensures { result ≡ more_words words }
-{
-    if words < 255 { words + 1 } else { 255 }
-}
-
-// the operands with one put at a place, none past the fifth
-fn put_operand(operands: Operands, place: u8, op: Option<Op>) -> Option<Operands>
-    ensures { result ≡ put_operand operands place op }
-{
-    match place {
-        0 => Some(Operands {
-            op0: op,
-            ..operands
-        }),
-        1 => Some(Operands {
-            op1: op,
-            ..operands
-        }),
-        2 => Some(Operands {
-            op2: op,
-            ..operands
-        }),
-        3 => Some(Operands {
-            op3: op,
-            ..operands
-        }),
-        4 => Some(Operands {
-            op4: op,
-            ..operands
-        }),
-        _ => None,
-    }
-}
+use record::Head;
 
 impl Draft {
     // what may stand next
@@ -76,7 +41,7 @@ impl Draft {
             self.name.from
         };
         Draft {
-            words: more(self.words),
+            words: self.words.saturating_add(1),
             name: Span { from, ..place },
             ..self
         }
@@ -91,7 +56,7 @@ impl Draft {
             head_word(self.head, Word::new(word))?
         };
         Some(Draft {
-            words: more(self.words),
+            words: self.words.saturating_add(1),
             head,
             ..self
         })
@@ -106,7 +71,7 @@ impl Draft {
             code_word(self.code, Word::new(word))?
         };
         Some(Draft {
-            words: more(self.words),
+            words: self.words.saturating_add(1),
             code,
             ..self
         })
@@ -116,7 +81,7 @@ impl Draft {
         ensures { result ≡ with_flags self word.now }
     {
         Some(Draft {
-            words: more(self.words),
+            words: self.words.saturating_add(1),
             flags: flag_word(self.flags, Word::new(word))?,
             ..self
         })
@@ -131,9 +96,15 @@ impl Draft {
         } else {
             Some(operand_word(Word::new(word))?)
         };
+        let mut operands = self.operands;
+        let place = self.words as usize;
+        if place >= operands.len() {
+            return None;
+        }
+        operands[place] = op;
         Some(Draft {
-            words: more(self.words),
-            operands: put_operand(self.operands, self.words, op)?,
+            words: self.words.saturating_add(1),
+            operands,
             ..self
         })
     }

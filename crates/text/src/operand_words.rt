@@ -53,10 +53,7 @@ fn range_numbers(word: &[u8]) -> Option<RegisterRange>
 fn range_word(word: &[u8]) -> Option<RegisterRange>
     ensures { result ≡ range_word word.now }
 {
-    match range_named(word) {
-        Some(range) => Some(range),
-        None => range_numbers(word),
-    }
+    range_named(word).or_else(|| range_numbers(word))
 }
 
 // any operand kind, by its number
@@ -194,10 +191,7 @@ fn marked_op(key: &[u8], arg: &[u8]) -> Option<Op>
     if let Some(range) = range_word(arg) {
         return ranged_op(key, range);
     }
-    match branch_op(key, arg) {
-        Some(op) => Some(op),
-        None => imm_op(key, arg),
-    }
+    branch_op(key, arg).or_else(|| imm_op(key, arg))
 }
 
 // the operand of a word

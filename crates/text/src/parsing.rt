@@ -10,29 +10,6 @@ use super::word::{word_begin, word_end};
 use machine::CodeSize;
 use record::{EncFlags3, Head, LegacyHead, Operands, RawRecord};
 
-fn no_code() -> CodePart
-    ensures { result ≡ empty_draft.code }
-{
-    CodePart {
-        op_code: 0,
-        is_2byte: false,
-        group: -1,
-        rm_group: -1,
-    }
-}
-
-fn no_flags() -> FlagPart
-    ensures { result ≡ empty_draft.flags }
-{
-    FlagPart {
-        bits: 0,
-        op_size: CodeSize::Unknown,
-        addr_size: CodeSize::Unknown,
-        n: 1,
-        nb: 1,
-    }
-}
-
 impl Draft {
     // nothing said yet
     fn new() -> Draft
@@ -47,15 +24,20 @@ impl Draft {
                 table_byte2: 0,
                 mandatory_prefix: 0,
             }),
-            code: no_code(),
-            flags: no_flags(),
-            operands: Operands {
-                op0: None,
-                op1: None,
-                op2: None,
-                op3: None,
-                op4: None,
+            code: CodePart {
+                op_code: 0,
+                is_2byte: false,
+                group: -1,
+                rm_group: -1,
             },
+            flags: FlagPart {
+                bits: 0,
+                op_size: CodeSize::Unknown,
+                addr_size: CodeSize::Unknown,
+                n: 1,
+                nb: 1,
+            },
+            operands: [None; 5],
         }
     }
 
@@ -69,6 +51,7 @@ impl Draft {
                 wanted: Wanted::Bar,
             });
         }
+        let [op0, op1, op2, op3, op4] = self.operands;
         let record = RawRecord {
             head: self.head,
             op_code: self.code.op_code,
@@ -82,7 +65,13 @@ impl Draft {
             is_2byte_opcode: self.code.is_2byte,
             n: self.flags.n,
             nb: self.flags.nb,
-            operands: self.operands,
+            operands: Operands {
+                op0,
+                op1,
+                op2,
+                op3,
+                op4,
+            },
         };
         Ok(Row {
             name: self.name,
