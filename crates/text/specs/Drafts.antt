@@ -1,15 +1,13 @@
-use Rattle.std.specs.Prelude.{ℕ, ◌+◌, cond, not, ◌&&◌, List, take, drop, is_some, Some, None, Ok, Err, codes, Option, Result, ◌==◌, nat_lt}
+use Rattle.std.specs.Prelude.{ℕ, ◌+◌, cond, List, Some, None, Ok, Err, codes, Option, Result, ◌==◌, nat_lt, slice_set}
+use Rattle.std.specs.Str.{bytes_eq}
 use Rattle.record.specs.declared.head.Head as heads
 use Rattle.record.specs.declared.head.Head.TheVariants.{Legacy, Vex, Evex}
 use Rattle.record.specs.declared.op.Op.{Op}
-use Rattle.record.specs.declared.op.Operands as places
-use Rattle.text.specs.Bytes.{same, mark_place, mark_of, arg_place}
+use Rattle.text.specs.Words.{key_of, mark_of, arg_of}
 use Rattle.text.specs.CodeWords.{code_named, code_word}
 use Rattle.text.specs.FlagWords.{flag_word}
 use Rattle.text.specs.HeadWords.{head_named, head_word}
 use Rattle.text.specs.OperandWords.{operand_word}
-use Rattle.text.specs.declared.code_part.CodePart.{CodePart}
-use Rattle.text.specs.declared.code_part.FlagPart.{FlagPart}
 use Rattle.text.specs.declared.draft.Draft.{Draft}
 use Rattle.text.specs.declared.draft.Section.{Section}
 use Rattle.text.specs.declared.draft.Section.TheVariants.{Name, Head, OpCode, Flags, Operands}
@@ -37,58 +35,36 @@ section_wanted Operands n h = want.OperandWord
 abbrev pub wanted_of : Draft → wants.Wanted
 wanted_of d = section_wanted d.section d.words d.head
 
-abbrev draft : Section → ℕ → Span → heads.Head → CodePart → FlagPart → places.Operands → Draft
-draft s w n h c f o = record { section = s; words = w; name = n; head = h; code = c; flags = f; operands = o }
-
-abbrev five_places : Option Op → Option Op → Option Op → Option Op → Option Op → places.Operands
-five_places a b c d e = record { op0 = a; op1 = b; op2 = c; op3 = d; op4 = e }
-
--- the operands with one put at a place, none past the fifth
-abbrev pub put_operand : places.Operands → ℕ → Option Op → Option places.Operands
-put_operand o p x =
-    cond (p == 0) (Some (five_places x o.op1 o.op2 o.op3 o.op4)) (
-    cond (p == 1) (Some (five_places o.op0 x o.op2 o.op3 o.op4)) (
-    cond (p == 2) (Some (five_places o.op0 o.op1 x o.op3 o.op4)) (
-    cond (p == 3) (Some (five_places o.op0 o.op1 o.op2 x o.op4)) (
-    cond (p == 4) (Some (five_places o.op0 o.op1 o.op2 o.op3 x)) None))))
-
-abbrev pub with_name : Draft → ℕ → ℕ → Draft
-with_name d from to = draft d.section (more_words d.words) (record { from = cond (d.words == 0) from d.name.from; to = to }) d.head d.code d.flags d.operands
-
-abbrev key_of : List ℕ → List ℕ
-key_of w = take (mark_place w) w
-
-abbrev arg_of : List ℕ → List ℕ
-arg_of w = drop (arg_place w) w
+abbrev pub with_name : Draft → Span → Draft
+with_name d p = record d { words = more_words d.words; name = record { from = cond (d.words == 0) p.from d.name.from; to = p.to } }
 
 abbrev pub with_head : Draft → List ℕ → Option Draft
 with_head d w = elim (cond (d.words == 0) (head_named w) (head_word d.head (key_of w) (mark_of w) (arg_of w))) [
-  | Some h ↦ Some (draft d.section (more_words d.words) d.name h d.code d.flags d.operands)
+  | Some h ↦ Some (record d { words = more_words d.words; head = h })
   | None ↦ None
 ]
 
 abbrev pub with_code : Draft → List ℕ → Option Draft
 with_code d w = elim (cond (d.words == 0) (code_named w) (code_word d.code (key_of w) (mark_of w) (arg_of w))) [
-  | Some c ↦ Some (draft d.section (more_words d.words) d.name d.head c d.flags d.operands)
+  | Some c ↦ Some (record d { words = more_words d.words; code = c })
   | None ↦ None
 ]
 
 abbrev pub with_flags : Draft → List ℕ → Option Draft
 with_flags d w = elim (flag_word d.flags (key_of w) (mark_of w) (arg_of w)) [
-  | Some f ↦ Some (draft d.section (more_words d.words) d.name d.head d.code f d.operands)
+  | Some f ↦ Some (record d { words = more_words d.words; flags = f })
   | None ↦ None
 ]
 
+-- with an operand or none put at the next place, none past the fifth
 abbrev placed : Draft → Option Op → Option Draft
-placed d x = elim (put_operand d.operands d.words x) [
-  | Some o ↦ Some (draft d.section (more_words d.words) d.name d.head d.code d.flags o)
-  | None ↦ None
-]
+placed d x = cond (nat_lt d.words 5) (Some (record d { words = more_words d.words; operands = slice_set d.operands d.words x })) None
 
+-- with an operand, or with an empty place for `-`
 abbrev pub with_operand : Draft → List ℕ → Option Draft
 with_operand d w =
-    cond (not (is_some (operand_word (key_of w) (mark_of w) (arg_of w))) && not (same w (codes "-"))) None
-    (placed d (operand_word (key_of w) (mark_of w) (arg_of w)))
+    cond (bytes_eq w (codes "-")) (placed d None)
+    (elim (operand_word (key_of w) (mark_of w) (arg_of w)) [ Some x ↦ placed d (Some x) | None ↦ None ])
 
 abbrev next_section : Section → ℕ → Option Section
 next_section Name n = cond (nat_lt 0 n) (Some Head) None
@@ -99,21 +75,18 @@ next_section Operands n = None
 
 -- after a bar, in the next section
 abbrev pub bar_after : Draft → Option Draft
-bar_after d = elim (next_section d.section d.words) [
-  | Some s ↦ Some (draft s 0 d.name d.head d.code d.flags d.operands)
-  | None ↦ None
-]
+bar_after d = elim (next_section d.section d.words) [ Some s ↦ Some (record d { section = s; words = 0 }) | None ↦ None ]
 
-abbrev section_word : Section → Draft → List ℕ → ℕ → ℕ → Option Draft
-section_word Name d w from to = Some (with_name d from to)
-section_word Head d w from to = with_head d w
-section_word OpCode d w from to = with_code d w
-section_word Flags d w from to = with_flags d w
-section_word Operands d w from to = with_operand d w
+abbrev section_word : Section → Draft → List ℕ → Span → Option Draft
+section_word Name d w p = Some (with_name d p)
+section_word Head d w p = with_head d w
+section_word OpCode d w p = with_code d w
+section_word Flags d w p = with_flags d w
+section_word Operands d w p = with_operand d w
 
-abbrev pub word_after : Draft → List ℕ → ℕ → ℕ → Option Draft
-word_after d w from to = cond (same w (codes "|")) (bar_after d) (section_word d.section d w from to)
+abbrev pub word_after : Draft → List ℕ → Span → Option Draft
+word_after d w p = cond (bytes_eq w (codes "|")) (bar_after d) (section_word d.section d w p)
 
 -- a draft with the word that stands at some places of the line
-abbrev pub step_of : Draft → List ℕ → ℕ → ℕ → Result Draft RowFault
-step_of d w from to = elim (word_after d w from to) [ Some e ↦ Ok e | None ↦ Err record { column = from + 1; wanted = wanted_of d } ]
+abbrev pub step_of : Draft → List ℕ → Span → Result Draft RowFault
+step_of d w p = elim (word_after d w p) [ Some e ↦ Ok e | None ↦ Err record { column = p.from + 1; wanted = wanted_of d } ]

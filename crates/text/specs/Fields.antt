@@ -15,7 +15,7 @@ use Rattle.text.specs.Numbers.{byte_of, word_of, small_of, flag_of, kind_of, cod
 use Rattle.text.specs.declared.case.Case.{Case}
 use Rattle.text.specs.declared.case.CaseSettings.{CaseSettings}
 use Rattle.text.specs.declared.case_fault.CaseFault.{CaseFault}
-use Rattle.text.specs.declared.digits.Number.{Number}
+use Rattle.text.specs.declared.number.Number.{Number}
 use Rattle.text.specs.declared.numbers.Numbers.{Numbers}
 
 -- the number of a place

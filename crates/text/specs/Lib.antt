@@ -1,6 +1,4 @@
-pub mod Bytes
 pub mod CodeWords
-pub mod Digits
 pub mod Drafts
 pub mod Fields
 pub mod FlagWords
@@ -10,3 +8,4 @@ pub mod Numbers
 pub mod OperandWords
 pub mod Rows
 pub mod Values
+pub mod Words

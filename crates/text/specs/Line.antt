@@ -1,8 +1,9 @@
-use Rattle.std.specs.Prelude.{ℕ, zero, suc, ◌+◌, Bool, false, cond, ◌&&◌, ◌||◌, List, length, replicate, Some, None, Ok, Err, Option, Result, ◌==◌, nat_lt, slice_set}
-use Rattle.text.specs.Digits.{number_at}
+use Rattle.std.specs.Prelude.{ℕ, zero, suc, ◌+◌, Bool, false, cond, not, ◌&&◌, ◌||◌, List, length, drop, replicate, Some, None, Ok, Err, Option, Result, ◌==◌, nat_lt, slice_range, slice_set}
+use Rattle.std.specs.List.{prefix_len}
+use Rattle.text.specs.Numbers.{signed_of}
 use Rattle.text.specs.declared.case_fault.CaseFault.{CaseFault}
 use Rattle.text.specs.declared.case_fault.CaseFault.TheVariants.{NotNumber, TooFew, TooMany, NotHeld}
-use Rattle.text.specs.declared.digits.Number.{Number}
+use Rattle.text.specs.declared.number.Number.{Number}
 use Rattle.text.specs.declared.numbers.Numbers.{Numbers}
 
 abbrev pub nothing : Number
@@ -28,6 +29,17 @@ limit_of p n =
     cond (is_kind_place p) (Some 12) (
     cond (after_kind_place p && n.size == 2) (Some 1) (
     cond (p == 45) (Some 255) None)))))))
+
+abbrev pub in_piece : ℕ → Bool
+in_piece b = not (b == 32)
+
+-- the place of the first space from `at` on, or the line's end
+abbrev pub piece_end : List ℕ → ℕ → ℕ
+piece_end l at = at + prefix_len in_piece (drop at l)
+
+-- the number between two places that are a space or an end of the line, and the second place
+abbrev pub number_at : List ℕ → ℕ → Option (Number × ℕ)
+number_at l at = elim (signed_of (slice_range l at (piece_end l at))) [ Some n ↦ Some (n, piece_end l at) | None ↦ None ]
 
 -- where the number of a place begins, after what ended at `at`
 abbrev pub start_from : List ℕ → ℕ → ℕ → Option ℕ

@@ -1,11 +1,20 @@
-use Rattle.std.specs.Prelude.{ℕ, Bool, cond, not, ◌&&◌, ℤ, pos, ◌-ℤ◌, Some, None, ◌==◌, nat_le}
+use Rattle.std.specs.Prelude.{ℕ, Bool, false, cond, not, ◌&&◌, List, drop, ℤ, pos, ◌-ℤ◌, Some, None, Option, ◌==◌, nat_le, slice_index}
 use Rattle.machine.specs.declared.code_size.CodeSize.{CodeSize}
 use Rattle.machine.specs.declared.code_size.CodeSize.TheVariants.{Unknown}
 use Rattle.machine.specs.declared.op_kind.OpKind.{OpKind}
 use Rattle.machine.specs.declared.op_kind.OpKind.TheVariants.{Register}
 use Rattle.machine.specs.CodeSizes.{size_named}
 use Rattle.machine.specs.OpKinds.{kind_named}
-use Rattle.text.specs.declared.digits.Number.{Number}
+use Rattle.numerals.specs.Numbers.{number_of}
+use Rattle.numerals.specs.declared.Radix.TheVariants.{Decimal}
+use Rattle.text.specs.declared.number.Number.{Number}
+
+-- the decimal number that a whole text is, a minus before it or not; zero has no sign
+abbrev pub signed_of : List ℕ → Option Number
+signed_of t =
+    cond (slice_index t 0 == 45)
+    (elim (number_of Decimal (drop 1 t)) [ Some v ↦ Some record { negative = not (v == 0); size = v } | None ↦ None ])
+    (elim (number_of Decimal t) [ Some v ↦ Some record { negative = false; size = v } | None ↦ None ])
 
 -- a number as a byte, 255 where none fits
 abbrev pub byte_of : Number → ℕ

@@ -1,10 +1,10 @@
-use Rattle.std.specs.Prelude.{ℕ, zero, suc, ◌+◌, false, cond, List, length, negsuc, None, Ok, Err, Result, ◌==◌, nat_le, slice_index, slice_range}
+use Rattle.std.specs.Prelude.{ℕ, zero, suc, ◌+◌, false, cond, List, length, replicate, negsuc, None, Ok, Err, Option, Result, nat_le, slice_index_or, slice_range}
 use Rattle.machine.specs.declared.code_size.CodeSize.TheVariants.{Unknown}
 use Rattle.record.specs.declared.head.Head.TheVariants.{Legacy}
+use Rattle.record.specs.declared.op.Op.{Op}
 use Rattle.record.specs.declared.raw.RawRecord.{RawRecord}
-use Rattle.text.specs.Bytes.{scan_of}
 use Rattle.text.specs.Drafts.{step_of}
-use Rattle.text.specs.declared.bytes.Stop.TheVariants as stop
+use Rattle.text.specs.Words.{word_begin, word_end}
 use Rattle.text.specs.declared.draft.Draft.{Draft}
 use Rattle.text.specs.declared.draft.Section.{Section}
 use Rattle.text.specs.declared.draft.Section.TheVariants.{Name, Head, OpCode, Flags, Operands}
@@ -21,8 +21,11 @@ empty_draft = record {
   head = Legacy record { table_byte1 = 0; table_byte2 = 0; mandatory_prefix = 0 };
   code = record { op_code = 0; is_2byte = false; group = negsuc 0; rm_group = negsuc 0 };
   flags = record { bits = 0; op_size = Unknown; addr_size = Unknown; n = 1; nb = 1 };
-  operands = record { op0 = None; op1 = None; op2 = None; op3 = None; op4 = None };
+  operands = replicate 5 None;
 }
+
+abbrev nth : Draft → ℕ → Option Op
+nth d p = slice_index_or d.operands p None
 
 abbrev raw_of : Draft → RawRecord
 raw_of d = record {
@@ -36,7 +39,7 @@ raw_of d = record {
   is_2byte_opcode = d.code.is_2byte;
   n = d.flags.n;
   nb = d.flags.nb;
-  operands = d.operands;
+  operands = record { op0 = nth d 0; op1 = nth d 1; op2 = nth d 2; op3 = nth d 3; op4 = nth d 4 };
 }
 
 abbrev finish_in : Section → Draft → ℕ → Result Row RowFault
@@ -50,31 +53,20 @@ finish_in Operands d k = Ok record { name = d.name; «record» = raw_of d }
 abbrev pub finish_of : Draft → ℕ → Result Row RowFault
 finish_of d k = finish_in d.section d k
 
--- the place after the word that begins at a place; a bar is a word of its own
-abbrev pub word_end : List ℕ → ℕ → ℕ
-word_end l at = cond (slice_index l at == 124) (at + 1) (scan_of stop.End (length l) l (at + 1))
-
-abbrev pub part : List ℕ → ℕ → ℕ → List ℕ
-part l from to = slice_range l from to
-
 abbrev pub carry : Result Draft RowFault → (Draft → Result Draft RowFault) → Result Draft RowFault
 carry (Ok d) f = f d
 carry (Err e) f = Err e
-
--- the word after one that ends at `to`
-abbrev pub next_word : List ℕ → ℕ → ℕ
-next_word l to = scan_of stop.Word (length l) l to
 
 -- the draft d with the words of l from `at` on, n words at most
 unfoldable pub words_from : ℕ → Draft → List ℕ → ℕ → Result Draft RowFault
 words_from zero d l at = Ok d
 words_from (suc n) d l at =
     cond (nat_le (length l) at) (Ok d)
-    (carry (step_of d (part l at (word_end l at)) at (word_end l at)) (λ e. words_from n e l (next_word l (word_end l at))))
+    (carry (step_of d (slice_range l at (word_end l at)) record { from = at; to = word_end l at }) (λ e. words_from n e l (word_begin l (word_end l at))))
 
 -- all that the words of a line say
 abbrev pub draft_of : List ℕ → Result Draft RowFault
-draft_of l = words_from (length l) empty_draft l (next_word l 0)
+draft_of l = words_from (length l) empty_draft l (word_begin l 0)
 
 -- the row of a line
 abbrev pub row_of : List ℕ → Result Row RowFault

@@ -2,19 +2,16 @@
 ghost use Rattle.std.specs.Prelude.{◌≡◌};
 ghost use Rattle.text.specs.CodeWords.{code_named, code_word};
 
-use super::bytes::is;
 use super::code_part::CodePart;
-use super::values::{small_word, whole};
+use super::values::{bits_word, small_word};
+use super::word::Word;
 
 // an opcode in hexadecimal; four digits are two bytes
 pub(crate) fn code_named(word: &[u8]) -> Option<CodePart>
     ensures { result ≡ code_named word.now }
 {
-    let Some(code) = whole(true, word, 0xFFFF_FFFF) else {
-        return None;
-    };
     Some(CodePart {
-        op_code: code as u32,
+        op_code: bits_word(word)?,
         is_2byte: word.len() == 4,
         group: -1,
         rm_group: -1,
@@ -22,33 +19,23 @@ pub(crate) fn code_named(word: &[u8]) -> Option<CodePart>
 }
 
 // an opcode with one word more
-pub(crate) fn code_word(code: CodePart, key: &[u8], mark: u8, arg: &[u8]) -> Option<CodePart>
-    ensures { result ≡ code_word code key.now mark arg.now }
+#[tactic(auto, using(crate::proofs::Words::word_decides))]
+pub(crate) fn code_word(code: CodePart, word: Word) -> Option<CodePart>
+    ensures { result ≡ code_word code word.entry.key.now word.entry.mark word.entry.arg.now }
 {
-    if mark == 0 {
-        return if is(key, b"2byte") {
-            Some(CodePart {
-                is_2byte: true,
-                ..code
-            })
-        } else {
-            None
-        };
-    }
-    let Some(number) = small_word(arg) else {
-        return None;
-    };
-    if mark == b'/' && key.is_empty() {
-        Some(CodePart {
-            group: number,
+    match (word.mark, word.key) {
+        (None, b"2byte") => Some(CodePart {
+            is_2byte: true,
             ..code
-        })
-    } else if mark == b'=' && is(key, b"rm") {
-        Some(CodePart {
-            rm_group: number,
+        }),
+        (Some(b'/'), b"") => Some(CodePart {
+            group: small_word(word.arg)?,
             ..code
-        })
-    } else {
-        None
+        }),
+        (Some(b'='), b"rm") => Some(CodePart {
+            rm_group: small_word(word.arg)?,
+            ..code
+        }),
+        _ => None,
     }
 }

@@ -1,6 +1,6 @@
 use super::code_part::{CodePart, FlagPart};
 use super::row::Span;
-use record::{Head, Operands};
+use record::{Head, Op};
 
 // Which part of a row a word stands in.
 #[derive(Clone, Copy)]
@@ -22,5 +22,5 @@ pub(crate) struct Draft {
     pub(crate) head: Head,
     pub(crate) code: CodePart,
     pub(crate) flags: FlagPart,
-    pub(crate) operands: Operands,
+    pub(crate) operands: [Option<Op>; 5],
 }

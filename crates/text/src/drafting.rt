@@ -1,8 +1,7 @@
 // A row's draft, word by word.
 ghost use Rattle.std.specs.Prelude.{◌≡◌, ◌<◌};
-ghost use Rattle.text.specs.Drafts.{more_words, wanted_of, put_operand, with_name, with_head, with_code, with_flags, with_operand, bar_after, word_after, step_of};
+ghost use Rattle.text.specs.Drafts.{wanted_of, with_name, with_head, with_code, with_flags, with_operand, bar_after, word_after, step_of};
 
-use super::bytes::{is, parts};
 use super::code_words::{code_named, code_word};
 use super::draft::{Draft, Section};
 use super::flag_words::flag_word;
@@ -10,42 +9,8 @@ use super::head_words::{head_named, head_word};
 use super::operand_words::operand_word;
 use super::row::Span;
 use super::row_fault::{RowFault, Wanted};
-use record::{Head, Op, Operands};
-
-fn more(words: u8) -> u8
-    ensures { result ≡ more_words words }
-{
-    if words < 255 { words + 1 } else { 255 }
-}
-
-// the operands with one put at a place, none past the fifth
-fn put_operand(operands: Operands, place: u8, op: Option<Op>) -> Option<Operands>
-    ensures { result ≡ put_operand operands place op }
-{
-    match place {
-        0 => Some(Operands {
-            op0: op,
-            ..operands
-        }),
-        1 => Some(Operands {
-            op1: op,
-            ..operands
-        }),
-        2 => Some(Operands {
-            op2: op,
-            ..operands
-        }),
-        3 => Some(Operands {
-            op3: op,
-            ..operands
-        }),
-        4 => Some(Operands {
-            op4: op,
-            ..operands
-        }),
-        _ => None,
-    }
-}
+use super::word::Word;
+use record::Head;
 
 impl Draft {
     // what may stand next
@@ -67,17 +32,17 @@ impl Draft {
         }
     }
 
-    fn with_name(self, from: usize, to: usize) -> Draft
-        ensures { result ≡ with_name self from to }
+    fn with_name(self, place: Span) -> Draft
+        ensures { result ≡ with_name self place }
     {
         let from = if self.words == 0 {
-            from
+            place.from
         } else {
             self.name.from
         };
         Draft {
-            words: more(self.words),
-            name: Span { from, to },
+            words: self.words.saturating_add(1),
+            name: Span { from, ..place },
             ..self
         }
     }
@@ -85,17 +50,13 @@ impl Draft {
     fn with_head(self, word: &[u8]) -> Option<Draft>
         ensures { result ≡ with_head self word.now }
     {
-        let (key, mark, arg) = parts(word);
-        let found = if self.words == 0 {
-            head_named(word)
+        let head = if self.words == 0 {
+            head_named(word)?
         } else {
-            head_word(self.head, key, mark, arg)
-        };
-        let Some(head) = found else {
-            return None;
+            head_word(self.head, Word::new(word))?
         };
         Some(Draft {
-            words: more(self.words),
+            words: self.words.saturating_add(1),
             head,
             ..self
         })
@@ -104,17 +65,13 @@ impl Draft {
     fn with_code(self, word: &[u8]) -> Option<Draft>
         ensures { result ≡ with_code self word.now }
     {
-        let (key, mark, arg) = parts(word);
-        let found = if self.words == 0 {
-            code_named(word)
+        let code = if self.words == 0 {
+            code_named(word)?
         } else {
-            code_word(self.code, key, mark, arg)
-        };
-        let Some(code) = found else {
-            return None;
+            code_word(self.code, Word::new(word))?
         };
         Some(Draft {
-            words: more(self.words),
+            words: self.words.saturating_add(1),
             code,
             ..self
         })
@@ -123,30 +80,30 @@ impl Draft {
     fn with_flags(self, word: &[u8]) -> Option<Draft>
         ensures { result ≡ with_flags self word.now }
     {
-        let (key, mark, arg) = parts(word);
-        let Some(flags) = flag_word(self.flags, key, mark, arg) else {
-            return None;
-        };
         Some(Draft {
-            words: more(self.words),
-            flags,
+            words: self.words.saturating_add(1),
+            flags: flag_word(self.flags, Word::new(word))?,
             ..self
         })
     }
 
+    // with an operand, or with an empty place for `-`
     fn with_operand(self, word: &[u8]) -> Option<Draft>
         ensures { result ≡ with_operand self word.now }
     {
-        let (key, mark, arg) = parts(word);
-        let op = operand_word(key, mark, arg);
-        if op.is_none() && !is(word, b"-") {
+        let op = if word == b"-".as_slice() {
+            None
+        } else {
+            Some(operand_word(Word::new(word))?)
+        };
+        let mut operands = self.operands;
+        let place = self.words as usize;
+        if place >= operands.len() {
             return None;
         }
-        let Some(operands) = put_operand(self.operands, self.words, op) else {
-            return None;
-        };
+        operands[place] = op;
         Some(Draft {
-            words: more(self.words),
+            words: self.words.saturating_add(1),
             operands,
             ..self
         })
@@ -170,14 +127,14 @@ impl Draft {
         })
     }
 
-    fn word(self, word: &[u8], from: usize, to: usize) -> Option<Draft>
-        ensures { result ≡ word_after self word.now from to }
+    fn word(self, word: &[u8], place: Span) -> Option<Draft>
+        ensures { result ≡ word_after self word.now place }
     {
-        if is(word, b"|") {
+        if word == b"|".as_slice() {
             return self.bar();
         }
         match self.section {
-            Section::Name => Some(self.with_name(from, to)),
+            Section::Name => Some(self.with_name(place)),
             Section::Head => self.with_head(word),
             Section::OpCode => self.with_code(word),
             Section::Flags => self.with_flags(word),
@@ -185,17 +142,14 @@ impl Draft {
         }
     }
 
-    // with the word that stands at some places of the line
-    pub(crate) fn step(self, word: &[u8], from: usize, to: usize) -> Result<Draft, RowFault>
-        requires { from < to }
-        ensures { result ≡ step_of self word.now from to }
+    // with the word that stands at some place of the line
+    pub(crate) fn step(self, word: &[u8], place: Span) -> Result<Draft, RowFault>
+        requires { place.from < place.to }
+        ensures { result ≡ step_of self word.now place }
     {
-        match self.word(word, from, to) {
-            Some(draft) => Ok(draft),
-            None => Err(RowFault {
-                column: from + 1,
-                wanted: self.wanted(),
-            }),
-        }
+        self.word(word, place).ok_or(RowFault {
+            column: place.from + 1,
+            wanted: self.wanted(),
+        })
     }
 }

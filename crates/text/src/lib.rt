@@ -1,12 +1,10 @@
 // Text to values: case lines, which machines write, and catalogue rows, which people write.
 #![tactic(auto)]
 
-mod bytes;
 mod case;
 mod case_fault;
 mod code_part;
 mod code_words;
-mod digits;
 mod draft;
 mod drafting;
 mod fields;
@@ -19,6 +17,7 @@ mod parsing;
 mod row;
 mod row_fault;
 mod values;
+mod word;
 
 pub use case::{Case, CaseSettings};
 pub use case_fault::CaseFault;

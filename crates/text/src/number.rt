@@ -1,18 +1,44 @@
 ghost use Rattle.std.specs.Prelude.{◌≡◌};
-ghost use Rattle.text.specs.Numbers.{byte_of, word_of, small_of, flag_of, kind_of, code_size_of};
+ghost use Rattle.text.specs.Numbers.{signed_of, byte_of, word_of, small_of, flag_of, kind_of, code_size_of};
 
-use super::digits::Number;
 use machine::{Code, CodeSize, OpKind};
+use numerals::{Radix, number};
+
+// A number as it is written: below 2^64, with a sign.
+#[derive(Clone, Copy)]
+pub(crate) struct Number {
+    pub(crate) negative: bool,
+    pub(crate) size: u64,
+}
 
 impl Number {
+    // the decimal number that the whole text is
+    pub(crate) fn parse(text: &[u8]) -> Option<Number>
+        ensures { result ≡ signed_of text.now }
+    {
+        match text {
+            [b'-', digits @ ..] => {
+                let size = number(Radix::Decimal, digits)?;
+                Some(Number {
+                    negative: size != 0,
+                    size,
+                })
+            }
+            _ => Some(Number {
+                negative: false,
+                size: number(Radix::Decimal, text)?,
+            }),
+        }
+    }
+
     // as a byte, 255 where none fits
     pub(crate) fn byte(self) -> u8
         ensures { result ≡ byte_of self }
     {
-        if !self.negative && self.size <= 255 {
-            self.size as u8
+        if self.negative {
+            u8::MAX
         } else {
-            255
+            u8::try_from(self.size).unwrap_or(u8::MAX)
         }
     }
 
@@ -20,10 +46,10 @@ impl Number {
     pub(crate) fn word(self) -> u32
         ensures { result ≡ word_of self }
     {
-        if !self.negative && self.size <= 0xFFFF_FFFF {
-            self.size as u32
+        if self.negative {
+            u32::MAX
         } else {
-            0xFFFF_FFFF
+            u32::try_from(self.size).unwrap_or(u32::MAX)
         }
     }
 
@@ -50,19 +76,13 @@ impl Number {
     pub(crate) fn kind(self) -> OpKind
         ensures { result ≡ kind_of self }
     {
-        match OpKind::from_number(self.byte()) {
-            Some(kind) => kind,
-            None => OpKind::Register,
-        }
+        OpKind::from_number(self.byte()).unwrap_or(OpKind::Register)
     }
 
     // as a width, Unknown where it is none
     pub(crate) fn code_size(self) -> CodeSize
         ensures { result ≡ code_size_of self }
     {
-        match CodeSize::from_number(self.byte()) {
-            Some(size) => size,
-            None => CodeSize::Unknown,
-        }
+        CodeSize::from_number(self.byte()).unwrap_or(CodeSize::Unknown)
     }
 }

@@ -1,14 +1,32 @@
 // The 61 numbers of a case line.
-ghost use Rattle.std.specs.Prelude.{◌≡◌, ◌<◌, slice_index_or};
-ghost use Rattle.text.specs.Line.{limit_of, start_from, item_of, numbers_of, nothing};
+ghost use Rattle.std.specs.Prelude.{◌≡◌, ◌<◌, ◌≤◌, length, slice_index_or};
+ghost use Rattle.std.specs.List.{prefix_len};
+ghost use Rattle.text.specs.Line.{in_piece, number_at, limit_of, start_from, item_of, numbers_of, nothing};
 
 use super::case_fault::CaseFault;
-use super::digits::{Number, number_at};
+use super::number::Number;
 
 // All numbers of a line.
 #[derive(Clone, Copy)]
 pub(crate) struct Numbers {
     all: [Number; 61],
+}
+
+// how many bytes come before the first space
+fn piece_len(text: &[u8]) -> usize
+    ensures count { result ≡ prefix_len in_piece text.now }
+    ensures within { result ≤ length text.now }
+{
+    text.iter().take_while(|byte| **byte != b' ').count()
+}
+
+// the number that begins at a place and is ended by a space or by the line's end, and the place after it
+fn number_at(line: &[u8], from: usize) -> Option<(Number, usize)>
+    requires { from ≤ length line.now }
+    ensures { result ≡ number_at line.now from }
+{
+    let end = from + piece_len(&line[from..]);
+    Some((Number::parse(&line[from..end])?, end))
 }
 
 // the largest number that can be held at a place after the number `last`; none where any number can

@@ -1,37 +1,14 @@
 // A whole row.
-ghost use Rattle.std.specs.Prelude.{◌≡◌, ◌<◌, ◌≤◌, length};
-ghost use Rattle.text.specs.Rows.{empty_draft, finish_of, word_end, draft_of, row_of};
+ghost use Rattle.std.specs.Prelude.{◌≡◌};
+ghost use Rattle.text.specs.Rows.{empty_draft, finish_of, draft_of, row_of};
 
-use super::bytes::{Stop, scan};
 use super::code_part::{CodePart, FlagPart};
 use super::draft::{Draft, Section};
 use super::row::{Row, Span};
 use super::row_fault::{RowFault, Wanted};
+use super::word::{word_begin, word_end};
 use machine::CodeSize;
 use record::{EncFlags3, Head, LegacyHead, Operands, RawRecord};
-
-fn no_code() -> CodePart
-    ensures { result ≡ empty_draft.code }
-{
-    CodePart {
-        op_code: 0,
-        is_2byte: false,
-        group: -1,
-        rm_group: -1,
-    }
-}
-
-fn no_flags() -> FlagPart
-    ensures { result ≡ empty_draft.flags }
-{
-    FlagPart {
-        bits: 0,
-        op_size: CodeSize::Unknown,
-        addr_size: CodeSize::Unknown,
-        n: 1,
-        nb: 1,
-    }
-}
 
 impl Draft {
     // nothing said yet
@@ -47,15 +24,20 @@ impl Draft {
                 table_byte2: 0,
                 mandatory_prefix: 0,
             }),
-            code: no_code(),
-            flags: no_flags(),
-            operands: Operands {
-                op0: None,
-                op1: None,
-                op2: None,
-                op3: None,
-                op4: None,
+            code: CodePart {
+                op_code: 0,
+                is_2byte: false,
+                group: -1,
+                rm_group: -1,
             },
+            flags: FlagPart {
+                bits: 0,
+                op_size: CodeSize::Unknown,
+                addr_size: CodeSize::Unknown,
+                n: 1,
+                nb: 1,
+            },
+            operands: [None; 5],
         }
     }
 
@@ -69,6 +51,7 @@ impl Draft {
                 wanted: Wanted::Bar,
             });
         }
+        let [op0, op1, op2, op3, op4] = self.operands;
         let record = RawRecord {
             head: self.head,
             op_code: self.code.op_code,
@@ -82,7 +65,13 @@ impl Draft {
             is_2byte_opcode: self.code.is_2byte,
             n: self.flags.n,
             nb: self.flags.nb,
-            operands: self.operands,
+            operands: Operands {
+                op0,
+                op1,
+                op2,
+                op3,
+                op4,
+            },
         };
         Ok(Row {
             name: self.name,
@@ -91,30 +80,16 @@ impl Draft {
     }
 }
 
-// the place after the word that begins at a place; a bar is a word of its own
-fn end_of(line: &[u8], at: usize) -> usize
-    requires { at < length line.now }
-    ensures place { result ≡ word_end line.now at }
-    ensures forward { at < result }
-    ensures within { result ≤ length line.now }
-{
-    if line[at] == b'|' {
-        at + 1
-    } else {
-        scan(line, at + 1, Stop::End)
-    }
-}
-
 // all that the words of a line say
 fn drafted(line: &[u8]) -> Result<Draft, RowFault>
     ensures { result ≡ draft_of line.now }
 {
     let mut draft = Draft::new();
-    let mut at = scan(line, 0, Stop::Word);
+    let mut at = word_begin(line, 0);
     while at < line.len() {
-        let to = end_of(line, at);
-        draft = draft.step(&line[at..to], at, to)?;
-        at = scan(line, to, Stop::Word);
+        let to = word_end(line, at);
+        draft = draft.step(&line[at..to], Span { from: at, to })?;
+        at = word_begin(line, to);
     }
     Ok(draft)
 }

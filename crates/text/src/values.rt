@@ -1,36 +1,31 @@
 // Numbers as a word's argument.
-ghost use Rattle.std.specs.Prelude.{◌≡◌, ◌≤◌, IfSome};
+ghost use Rattle.std.specs.Prelude.{◌≡◌};
 ghost use Rattle.text.specs.Values.{whole_of, small_word};
+ghost use Rattle.numerals.specs.declared.Radix.TheVariants.{Hexadecimal};
 
-use super::digits::{digits, number_at};
-
-// the number that the whole text is, where it is at most `most`
-pub(crate) fn whole(hex: bool, text: &[u8], most: u64) -> Option<u64>
-    ensures value { result ≡ whole_of hex text.now most }
-    ensures bound { IfSome result (λ v. v ≤ most) }
-{
-    match digits(hex, text, 0) {
-        Some((value, end)) if end > 0 && end == text.len() && value <= most => Some(value),
-        _ => None,
-    }
-}
+use super::number::Number;
+use numerals::{Radix, number};
 
 // the byte that the whole text is
-pub(crate) fn byte_word(hex: bool, text: &[u8]) -> Option<u8>
-    ensures { result ≡ whole_of hex text.now 255 }
+pub(crate) fn byte_word(radix: Radix, text: &[u8]) -> Option<u8>
+    ensures { result ≡ whole_of radix text.now 255 }
 {
-    match whole(hex, text, 255) {
-        Some(value) => Some(value as u8),
-        None => None,
-    }
+    u8::try_from(number(radix, text)?).ok()
 }
 
-// the signed byte that a text is
+// the 32 bits that the whole text is in hexadecimal
+pub(crate) fn bits_word(text: &[u8]) -> Option<u32>
+    ensures { result ≡ whole_of Hexadecimal text.now 0xFFFFFFFF }
+{
+    u32::try_from(number(Radix::Hexadecimal, text)?).ok()
+}
+
+// the signed byte that the whole text is
 pub(crate) fn small_word(text: &[u8]) -> Option<i8>
     ensures { result ≡ small_word text.now }
 {
-    match number_at(text, 0) {
-        Some((number, _)) if number.size <= 127 || (number.negative && number.size == 128) => Some(
+    match Number::parse(text)? {
+        number if number.size <= 127 || (number.negative && number.size == 128) => Some(
             number.small(),
         ),
         _ => None,
