@@ -2,9 +2,9 @@
 // the argument `figures` it goes on to time rounds over the whole corpus.
 #![tactic(auto)]
 
-use encoder::{RawSettings, encode};
+use encoder::encode;
 use fault::EncodeFault;
-use instruction::Instruction;
+use instruction::{Instruction, RawSettings};
 use policy::{PortPolicy, port_policy};
 use record::Record;
 use std::io::{BufRead, BufReader};
@@ -16,14 +16,6 @@ const ROUNDS: usize = 25;
 
 // A round of so many nanoseconds or more counts as 0.
 const TOO_LONG: u64 = 1_000_000_000_000;
-
-const PLAIN: RawSettings = RawSettings {
-    prevent_vex2: 0,
-    vex_wig: 0,
-    vex_lig: 0,
-    evex_wig: 0,
-    evex_lig: 0,
-};
 
 // One instruction of the corpus, made.
 #[derive(Clone, Copy)]
@@ -50,7 +42,7 @@ impl Item {
     fn encode(&self, policy: &PortPolicy) -> Result<u8, EncodeFault> {
         encode(
             policy,
-            PLAIN,
+            RawSettings::default(),
             self.mode,
             self.address,
             &self.record,

@@ -6,7 +6,7 @@ use Rattle.machine.specs.declared.mode.Mode.{Mode}
 use Rattle.instruction.specs.declared.made.Instruction.{Instruction}
 use Rattle.gather.specs.Steps.{Spread}
 use Rattle.record.specs.declared.sound.Record.{Record}
-use Rattle.encoder.specs.declared.settings.RawSettings.{RawSettings}
+use Rattle.instruction.specs.declared.settings.RawSettings.{RawSettings}
 use Rattle.encoder.specs.declared.settings.Settings.{Settings}
 use Rattle.encoder.specs.Encode.{steps_of, settings_known, settings_of, settings_made, refused_with, by_mode}
 

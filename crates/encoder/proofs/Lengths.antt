@@ -16,7 +16,7 @@ use Rattle.gather.specs.declared.parts.Parts.{Parts}
 use Rattle.gather.specs.Gathered.{gathered}
 use Rattle.gather.specs.Steps.{Spread}
 use Rattle.record.specs.declared.sound.Record.{Record}
-use Rattle.encoder.specs.declared.settings.RawSettings.{RawSettings}
+use Rattle.instruction.specs.declared.settings.RawSettings.{RawSettings}
 use Rattle.encoder.specs.declared.settings.Settings.{Settings}
 use Rattle.encoder.specs.Encode.{refuse_if, head_bytes, code_bytes, displ_bytes_onto, imm_bytes_onto, line_bytes, line_fault, answer_of, steps_of, settings_known, settings_of, by_mode, encode_of}
 use Rattle.encoder.specs.Fields.{imm_length, displ_onto, imm_onto}

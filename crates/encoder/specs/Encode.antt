@@ -29,7 +29,7 @@ use Rattle.record.specs.Facts.{op_at, has_mod_rm}
 use Rattle.record.specs.Flags.{has_flag}
 use Rattle.record.specs.Rules.{is_evex}
 use Rattle.encoder.specs.declared.settings.EvexLig.{EvexLig}
-use Rattle.encoder.specs.declared.settings.RawSettings.{RawSettings}
+use Rattle.instruction.specs.declared.settings.RawSettings.{RawSettings}
 use Rattle.encoder.specs.declared.settings.Settings.{Settings}
 use Rattle.encoder.specs.Fields.{opcode_number, opcode_onto, mod_rm_onto, imm_length, displ_onto, displ_far, imm_onto, imm_far}
 use Rattle.encoder.specs.Heads.{prefixes_onto, repe_stands, has_rex, legacy_onto, vex_onto, evex_onto, evex_fault, rounds}

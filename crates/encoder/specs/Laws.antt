@@ -3,7 +3,7 @@ use Rattle.std.specs.Prelude.{◌≡◌, ℕ, ◌≤◌, length, Ok}
 use Rattle.instruction.specs.declared.made.Instruction.{Instruction}
 use Rattle.gather.specs.Steps.{Spread}
 use Rattle.record.specs.declared.sound.Record.{Record}
-use Rattle.encoder.specs.declared.settings.RawSettings.{RawSettings}
+use Rattle.instruction.specs.declared.settings.RawSettings.{RawSettings}
 use Rattle.encoder.specs.Encode.{encode_of}
 
 -- how many bytes are written depends on no address

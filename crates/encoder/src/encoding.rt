@@ -7,10 +7,10 @@ ghost use Rattle.encoder.specs.Laws.{LengthWithoutAddress, AnswerIsLength};
 
 use super::gathered::Gathered;
 use super::line::Line;
-use super::settings::{RawSettings, Settings};
+use super::settings::Settings;
 use fault::{EncodeFault, EncodingFault};
 use gather::{Gathering, gather};
-use instruction::Instruction;
+use instruction::{Instruction, RawSettings};
 use machine::{Code, Mode};
 use policy::Policy;
 use record::Record;

@@ -11,4 +11,5 @@ mod settings;
 
 pub use encoding::{Encoded, encode};
 pub use line::Line;
-pub use settings::{EvexLig, RawSettings, Settings};
+pub use instruction::RawSettings;
+pub use settings::{EvexLig, Settings};

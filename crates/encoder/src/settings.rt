@@ -3,16 +3,7 @@ ghost use Rattle.fault.specs.declared.encoding.EncodingFault.TheVariants.{Settin
 ghost use Rattle.encoder.specs.Encode.{lig_of, settings_made};
 
 use fault::EncodingFault;
-
-// The settings as numbers: each 0 or 1, evex_lig 0 to 3.
-#[derive(Clone, Copy)]
-pub struct RawSettings {
-    pub prevent_vex2: u8,
-    pub vex_wig: u8,
-    pub vex_lig: u8,
-    pub evex_wig: u8,
-    pub evex_lig: u8,
-}
+use instruction::RawSettings;
 
 // The settings of an encoder, in range: forcing the three-byte VEX form, and what stands in the W and L bits that an
 // instruction ignores.

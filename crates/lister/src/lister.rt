@@ -1,22 +1,14 @@
 use super::refusal::Refusal;
 use super::shown::{show_bytes, trimmed};
 use catalogue::{BuiltIn, Catalogue};
-use encoder::{Encoded, RawSettings, encode};
+use encoder::{Encoded, encode};
 use fault::{AppendFault, Fault, SheetFault};
-use instruction::Instruction;
+use instruction::{Instruction, RawSettings};
 use listing::{Asked, Line};
 use machine::{Code, Mode};
 use policy::port_policy;
 use std::io;
 use std::io::Write;
-
-const PLAIN: RawSettings = RawSettings {
-    prevent_vex2: 0,
-    vex_wig: 0,
-    vex_lig: 0,
-    evex_wig: 0,
-    evex_lig: 0,
-};
 
 // Where the next instruction goes, what is printed to, and how many lines there were by what came of them.
 #[derive(Drop)]
@@ -77,7 +69,7 @@ impl<W: Write> Lister<W> {
         let raw = asked.instruction(mode, &record.raw.operands)?;
         let instruction = Instruction::new(&raw).map_err(Fault::Making)?;
         let policy = port_policy();
-        let encoded = encode(&policy, PLAIN, mode, self.address, &record, &instruction);
+        let encoded = encode(&policy, RawSettings::default(), mode, self.address, &record, &instruction);
         encoded.result.map_err(Fault::Encode)?;
         Ok(encoded)
     }

@@ -3,7 +3,7 @@ use Rattle.std.specs.Prelude.{◌≡◌, ℕ, ◌<◌, List, ◌++◌, length, S
 use Rattle.instruction.specs.declared.made.Instruction.{Instruction}
 use Rattle.record.specs.declared.sound.Record.{Record}
 use Rattle.gather.specs.Steps.{Spread}
-use Rattle.encoder.specs.declared.settings.RawSettings.{RawSettings}
+use Rattle.instruction.specs.declared.settings.RawSettings.{RawSettings}
 use Rattle.encoder.specs.Encode.{encode_of}
 use Rattle.reader.specs.declared.reading.Reading.{Reading}
 use Rattle.reader.specs.Readings.{read_of, meaning_of}

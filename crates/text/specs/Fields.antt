@@ -13,7 +13,7 @@ use Rattle.record.specs.declared.raw.RawRecord.{RawRecord}
 use Rattle.text.specs.Line.{nothing, numbers_of}
 use Rattle.text.specs.Numbers.{byte_of, word_of, small_of, flag_of, kind_of, code_size_of}
 use Rattle.text.specs.declared.case.Case.{Case}
-use Rattle.text.specs.declared.case.CaseSettings.{CaseSettings}
+use Rattle.instruction.specs.declared.settings.RawSettings.{RawSettings}
 use Rattle.text.specs.declared.case_fault.CaseFault.{CaseFault}
 use Rattle.text.specs.declared.number.Number.{Number}
 use Rattle.text.specs.declared.numbers.Numbers.{Numbers}
@@ -22,7 +22,7 @@ use Rattle.text.specs.declared.numbers.Numbers.{Numbers}
 abbrev pub nth : Numbers → ℕ → Number
 nth ns p = slice_index_or ns.all p nothing
 
-abbrev pub settings_of : Numbers → CaseSettings
+abbrev pub settings_of : Numbers → RawSettings
 settings_of ns = record { prevent_vex2 = byte_of (nth ns 2); vex_wig = byte_of (nth ns 3); vex_lig = byte_of (nth ns 4); evex_wig = byte_of (nth ns 5); evex_lig = byte_of (nth ns 6) }
 
 abbrev pub legacy_of : Numbers → LegacyHead

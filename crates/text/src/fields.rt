@@ -2,19 +2,19 @@
 ghost use Rattle.std.specs.Prelude.{◌≡◌, ◌≤◌};
 ghost use Rattle.text.specs.Fields.{settings_of, legacy_of, vex_of, evex_of, head_of, range_of, operand_of, operands_of, record_of, instruction_of, case_of, parse_of};
 
-use super::case::{Case, CaseSettings};
+use super::case::Case;
 use super::case_fault::CaseFault;
 use super::numbers::Numbers;
-use instruction::RawInstruction;
+use instruction::{RawInstruction, RawSettings};
 use record::{
     EncFlags3, EvexHead, Head, LegacyHead, Op, Operands, RawRecord, RegisterRange, VexHead,
 };
 
 impl Numbers {
-    fn settings(&self) -> CaseSettings
+    fn settings(&self) -> RawSettings
         ensures { result ≡ settings_of self.now }
     {
-        CaseSettings {
+        RawSettings {
             prevent_vex2: self.at(2).byte(),
             vex_wig: self.at(3).byte(),
             vex_lig: self.at(4).byte(),

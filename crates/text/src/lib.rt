@@ -19,7 +19,7 @@ mod row_fault;
 mod values;
 mod word;
 
-pub use case::{Case, CaseSettings};
+pub use case::Case;
 pub use case_fault::CaseFault;
 pub use row::{Row, Span};
 pub use row_fault::{RowFault, Wanted};

@@ -10,7 +10,7 @@ use Rattle.instruction.specs.declared.raw.RawInstruction.{RawInstruction}
 use Rattle.instruction.specs.Making.{instruction_of}
 use Rattle.catalogue.specs.Built.{built_rows}
 use Rattle.catalogue.specs.Meaning.{row_of}
-use Rattle.encoder.specs.declared.settings.RawSettings.{RawSettings}
+use Rattle.instruction.specs.declared.settings.RawSettings.{RawSettings}
 use Rattle.encoder.specs.Encode.{EncodingOf, encode_of, refused_with}
 use Rattle.policy.specs.Meanings.{port_spread}
 
