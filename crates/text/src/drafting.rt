@@ -147,7 +147,7 @@ impl Draft {
         requires { place.from < place.to }
         ensures { result ≡ step_of self word.now place }
     {
-        self.word(word, place).ok_or(RowFault {
+        self.word(word, place).ok_or_else(|| RowFault {
             column: place.from + 1,
             wanted: self.wanted(),
         })

@@ -71,18 +71,15 @@ fn item(line: &[u8], at: usize, place: u8, last: Number) -> Result<(Number, usiz
     requires { place < 61 }
     ensures { result ≡ item_of line.now at place last }
 {
-    let Some(from) = start(line, at, place) else {
-        return Err(CaseFault::TooFew(place));
-    };
-    let Some((number, end)) = number_at(line, from) else {
-        return Err(CaseFault::NotNumber(place + 1));
-    };
-    if let Some(most) = limit(place, last) {
-        if number.0 < 0 || number.0 > i128::from(most) {
-            return Err(CaseFault::NotHeld(place + 1, most));
-        }
+    let from = start(line, at, place).ok_or(CaseFault::TooFew(place))?;
+    let (number, end) = number_at(line, from).ok_or(CaseFault::NotNumber(place + 1))?;
+    match limit(place, last) {
+        Some(most) if number.0 < 0 || number.0 > i128::from(most) => Err(CaseFault::NotHeld(
+            place + 1,
+            most,
+        )),
+        _ => Ok((number, end)),
     }
-    Ok((number, end))
 }
 
 impl Numbers {

@@ -97,17 +97,16 @@ fn branch_kind(word: &[u8]) -> Option<OpKind>
     }
 }
 
-// a name of at most five bytes, filled up with zeros
+// a name of two to five bytes, filled up with zeros
 fn five(word: &[u8]) -> Option<[u8; 5]>
     ensures { result ≡ five word.now }
 {
-    match word {
-        [a, b] => Some([*a, *b, 0, 0, 0]),
-        [a, b, c] => Some([*a, *b, *c, 0, 0]),
-        [a, b, c, d] => Some([*a, *b, *c, *d, 0]),
-        [a, b, c, d, e] => Some([*a, *b, *c, *d, *e]),
-        _ => None,
+    if word.len() < 2 || word.len() > 5 {
+        return None;
     }
+    let mut name = [0; 5];
+    name[..word.len()].copy_from_slice(word);
+    Some(name)
 }
 
 // a register by its name, or by its number
