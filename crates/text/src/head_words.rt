@@ -1,4 +1,6 @@
 // The words of a row's head.
+#![tactic(auto, using(crate::proofs::Words::word_decides))]
+
 ghost use Rattle.std.specs.Prelude.{◌≡◌};
 ghost use Rattle.text.specs.HeadWords.{head_named, legacy_byte, legacy_word, vex_word, evex_word, head_word};
 
@@ -8,7 +10,6 @@ use numerals::Radix;
 use record::{EvexHead, Head, LegacyHead, VexHead};
 
 // a head by its first word, with nothing said of it yet
-#[tactic(auto, using(crate::proofs::Words::word_decides))]
 pub(crate) fn head_named(word: &[u8]) -> Option<Head>
     ensures { result ≡ head_named word.now }
 {
@@ -57,7 +58,6 @@ fn legacy_byte(head: LegacyHead, byte: u8) -> Option<LegacyHead>
     }
 }
 
-#[tactic(auto, using(crate::proofs::Words::word_decides))]
 fn legacy_word(head: LegacyHead, word: Word) -> Option<LegacyHead>
     ensures { result ≡ legacy_word head word.entry.key.now word.entry.mark word.entry.arg.now }
 {
@@ -80,7 +80,6 @@ fn legacy_word(head: LegacyHead, word: Word) -> Option<LegacyHead>
     }
 }
 
-#[tactic(auto, using(crate::proofs::Words::word_decides))]
 fn vex_word(head: VexHead, word: Word) -> Option<VexHead>
     ensures { result ≡ vex_word head word.entry.key.now word.entry.mark word.entry.arg.now }
 {
@@ -107,7 +106,6 @@ fn vex_word(head: VexHead, word: Word) -> Option<VexHead>
     }
 }
 
-#[tactic(auto, using(crate::proofs::Words::word_decides))]
 fn evex_word(head: EvexHead, word: Word) -> Option<EvexHead>
     ensures { result ≡ evex_word head word.entry.key.now word.entry.mark word.entry.arg.now }
 {

@@ -84,6 +84,7 @@ fn item(line: &[u8], at: usize, place: u8, last: Number) -> Result<(Number, usiz
 
 impl Numbers {
     // the numbers of a line
+    #[tactic(auto, using(crate::proofs::Filling::read_err, crate::proofs::Filling::read_more, crate::proofs::Filling::read_end))]
     pub(crate) fn read(line: &[u8]) -> Result<Numbers, CaseFault>
         ensures { result ≡ numbers_of line.now }
     {

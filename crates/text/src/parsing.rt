@@ -81,6 +81,7 @@ impl Draft {
 }
 
 // all that the words of a line say
+#[tactic(auto, using(crate::proofs::Wording::word_err, crate::proofs::Wording::words_end))]
 fn drafted(line: &[u8]) -> Result<Draft, RowFault>
     ensures { result ≡ draft_of line.now }
 {
