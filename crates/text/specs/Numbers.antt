@@ -33,13 +33,13 @@ abbrev pub long_of : ℤ → ℕ
 long_of n = capped 0xFFFFFFFFFFFFFFFF n
 
 -- the signed byte that a number is
-abbrev pub small_option : ℤ → Option ℤ
-small_option (pos n) = cond (nat_lt n 128) (Some (pos n)) None
-small_option (negsuc n) = cond (nat_lt n 128) (Some (negsuc n)) None
+abbrev pub signed_byte : ℤ → Option ℤ
+signed_byte (pos n) = cond (nat_lt n 128) (Some (pos n)) None
+signed_byte (negsuc n) = cond (nat_lt n 128) (Some (negsuc n)) None
 
 -- a number as a signed byte, 127 where none fits
 abbrev pub small_of : ℤ → ℤ
-small_of n = elim (small_option n) [ Some v ↦ v | None ↦ pos 127 ]
+small_of n = elim (signed_byte n) [ Some v ↦ v | None ↦ pos 127 ]
 
 abbrev pub flag_of : ℤ → Bool
 flag_of (pos n) = not (n == 0)

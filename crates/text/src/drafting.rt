@@ -97,6 +97,7 @@ impl Draft {
             Some(operand_word(Word::new(word))?)
         };
         let mut operands = self.operands;
+        // not by get_mut: what the array holds after a write through it stayed open
         let place = self.words as usize;
         if place >= operands.len() {
             return None;

@@ -19,7 +19,7 @@ pub(crate) struct Numbers {
     all: [Number; 61],
 }
 
-// how many bytes come before the first space
+// how many bytes come before the first space; on its own, since inside `number_at` the chain's goals stayed open
 fn piece_len(text: &[u8]) -> usize
     ensures count { result ≡ prefix_len in_piece text.now }
     ensures within { result ≤ length text.now }
@@ -41,7 +41,7 @@ fn limit(place: u8, last: Number) -> Option<u64>
     ensures { result ≡ limit_of place last }
 {
     match place {
-        0 | 1 | 46 => Some(0xFFFF_FFFF_FFFF_FFFF),
+        0 | 1 | 46 => Some(u64::MAX),
         7 => Some(2),
         11 | 47 => Some(0xFFFF_FFFF),
         12 | 13 => Some(3),
@@ -91,6 +91,7 @@ impl Numbers {
         let mut last = Number(0);
         let mut all = [last; 61];
         let mut at = 0;
+        // by number, since limits and faults go by it
         for place in 0..61u8 {
             let (number, end) = item(line, at, place, last)?;
             all[place as usize] = number;

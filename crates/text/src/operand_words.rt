@@ -32,7 +32,7 @@ fn range_named(word: &[u8]) -> Option<RegisterRange>
     }
 }
 
-// the place of the first `-`
+// the place of the first `-`; on its own, since inside `range_numbers` the chain's goals stayed open
 fn first_dash(word: &[u8]) -> Option<usize>
     ensures place { result ≡ position (λ b. b == 45) word.now }
     ensures within { IfSome result (λ at. at < length word.now) }
