@@ -84,7 +84,7 @@ out_back f width d Wrong (Some k) h w r s g = absurd g
 out_back f width d Wrong None h w r s g = absurd g
 
 -- the way that the size asked takes
-lowest_told : (f : ℤ → ℤ) (d : ℕ) (o : Option ℤ) (out : Out) → lowest f (to_z w32 (d % 4294967296)) ≡ o → ◌≡◌ {A = Result Out Refusal} (elim o [ Some v ↦ Ok (Byte v) | None ↦ Ok Full ]) (Ok out) → Stands f d out × (out ≡ Nothing → ⊥)
+lowest_told : (f : ℤ → ℤ) (d : ℕ) (o : Option ℤ) (out : Out) → lowest f (to_z w32 (d % 4294967296)) ≡ o → ◌≡◌ {A = Result Out (Refusal RmPart)} (elim o [ Some v ↦ Ok (Byte v) | None ↦ Ok Full ]) (Ok out) → Stands f d out × (out ≡ Nothing → ⊥)
 lowest_told f d (Some v) out l e =
     let s = same_ok (Byte v) out e in
     let k = lowest_some f (to_z w32 (d % 4294967296)) v l in
@@ -99,7 +99,7 @@ sized_ok : (f : ℤ → ℤ) (bytes d size : ℕ) (out : Out) → sized_out f by
 sized_ok f bytes d size out e = go (eqb size 1) refl (eqb size bytes) (eqb size 0) refl (eqb d 0) refl e
   where
     go : (one : Bool) → eqb size 1 ≡ one → (whole : Bool) → (none : Bool) → eqb size 0 ≡ none → (zero : Bool) → eqb d 0 ≡ zero
-        → ◌≡◌ {A = Result Out Refusal} (cond one (elim (lowest f (to_z w32 (d % 4294967296))) [ Some v ↦ Ok (Byte v) | None ↦ Ok Full ]) (cond whole (Ok Full) (cond none (cond zero (Ok Nothing) (refusing F.DisplacementNotZero blank)) (Ok Wrong)))) (Ok out)
+        → ◌≡◌ {A = Result Out (Refusal RmPart)} (cond one (elim (lowest f (to_z w32 (d % 4294967296))) [ Some v ↦ Ok (Byte v) | None ↦ Ok Full ]) (cond whole (Ok Full) (cond none (cond zero (Ok Nothing) (refusing F.DisplacementNotZero blank)) (Ok Wrong)))) (Ok out)
         → Stands f d out × (out ≡ Nothing → size ≡ 0)
     go true a whole none b zero c h = let k = lowest_told f d (lowest f (to_z w32 (d % 4294967296))) out refl h in (k.0, λ n. absurd (k.1 n))
     go false a true none b zero c h = let s = same_ok Full out h in (coe 0 1 (j. Stands f d (s j)) tt, λ n. let z : ◌≡◌ {A = ℕ} 0 1 = cc in absurd (omega arith))
@@ -117,7 +117,7 @@ goes_from k size Wrong w n = let z : ◌≡◌ {A = ℕ} 0 1 = cc in omega arith
 pub based_ok : (f : ℤ → ℤ) (bytes k d size : ℕ) (out : Out) → displ_out f bytes (Some k) d size ≡ Ok out → is_wrong out ≡ false → Stands f d out × Goes (Some k) out
 based_ok f bytes k d size out e w = go (eqb size 0 && eqb (k % 8) 5) refl (eqb d 0) e
   where
-    go : (t : Bool) → (eqb size 0 && eqb (k % 8) 5) ≡ t → (zero : Bool) → ◌≡◌ {A = Result Out Refusal} (cond t (cond zero (sized_out f bytes d 1) (refusing F.DisplacementNotZero blank)) (sized_out f bytes d size)) (Ok out)
+    go : (t : Bool) → (eqb size 0 && eqb (k % 8) 5) ≡ t → (zero : Bool) → ◌≡◌ {A = Result Out (Refusal RmPart)} (cond t (cond zero (sized_out f bytes d 1) (refusing F.DisplacementNotZero blank)) (sized_out f bytes d size)) (Ok out)
         → Stands f d out × Goes (Some k) out
     go true t true h = let s = sized_ok f bytes d 1 out h in (s.0, goes_from k size out w (λ n. let z = s.1 n in absurd (omega arith)))
     go true t false h = no_err _ out h

@@ -105,23 +105,23 @@ module _ (f : ℤ → ℤ) (m : Mode) (must : Bool) (vsib : Option RegisterRange
       coe 0 1 (j. Says f m must vsib i 2 (same_ok _ p a.1 j)) (says16 0 6 (D.Size2 (i.mem_displ % 65536)) (omega arith) (omega arith) (sym b) (sym x) (rw b refl) refl (λ place imm. twice))
 
   module _ (rm : ℕ) (r : rm16 i.memory.base.number i.memory.index.number ≡ Some rm) (some : (eqb i.memory.base.number 0 && eqb i.memory.index.number 0) ≡ false) where
-    none16 : (p : RmPart) → (eqb i.memory.base.number 26 && eqb i.memory.index.number 0) ≡ false → i.mem_displ ≡ 0 → ◌≡◌ {A = Result RmPart Refusal} (Ok (plain_part 0 rm D.Absent)) (Ok p) → Says f m must vsib i 2 p
+    none16 : (p : RmPart) → (eqb i.memory.base.number 26 && eqb i.memory.index.number 0) ≡ false → i.mem_displ ≡ 0 → ◌≡◌ {A = Result RmPart (Refusal RmPart)} (Ok (plain_part 0 rm D.Absent)) (Ok p) → Says f m must vsib i 2 p
     none16 p bp z e =
         let w = row i.memory.base.number i.memory.index.number rm 0 r some (λ _. bp) in
         let not_6 : rm ≡ 6 → ⊥ = λ k. (let q : base16 (mod_rm_read 0 0 (plain_part 0 6 D.Absent)) ≡ i.memory.base.number = ap (λ y. base16 (mod_rm_read 0 0 (plain_part 0 y D.Absent))) (sym k) ∙ w.base_is in let u : index16 (mod_rm_read 0 0 (plain_part 0 6 D.Absent)) ≡ i.memory.index.number = ap (λ y. index16 (mod_rm_read 0 0 (plain_part 0 y D.Absent))) (sym k) ∙ w.index_is in clash (eqb i.memory.base.number 0 && eqb i.memory.index.number 0) (grind (arith, nat_tests)) some) in
         let size : displ_size 2 (mod_rm_read 0 0 (plain_part 0 rm D.Absent)) ≡ 0 = grind (arith, nat_tests) in
         coe 0 1 (j. Says f m must vsib i 2 (same_ok _ p e j)) (says16 0 rm D.Absent (omega arith) w.rm_lt w.base_is w.index_is w.counted size (λ place imm. ap (modulo 2) (sym z)))
 
-    two16 : (p : RmPart) → ◌≡◌ {A = Result RmPart Refusal} (Ok (plain_part 2 rm (D.Size2 (i.mem_displ % 65536)))) (Ok p) → Says f m must vsib i 2 p
+    two16 : (p : RmPart) → ◌≡◌ {A = Result RmPart (Refusal RmPart)} (Ok (plain_part 2 rm (D.Size2 (i.mem_displ % 65536)))) (Ok p) → Says f m must vsib i 2 p
     two16 p e =
         let w = row i.memory.base.number i.memory.index.number rm 2 r some (λ z. absurd (omega arith)) in
         let twice : i.mem_displ % 65536 % 65536 % 65536 ≡ i.mem_displ % 65536 = omega arith in
         coe 0 1 (j. Says f m must vsib i 2 (same_ok _ p e j)) (says16 2 rm (D.Size2 (i.mem_displ % 65536)) (omega arith) w.rm_lt w.base_is w.index_is w.counted refl (λ place imm. twice))
 
-    one16_says : (p : RmPart) → ◌≡◌ {A = Result RmPart Refusal} (Ok (one16 f rm i.mem_displ)) (Ok p) → Says f m must vsib i 2 p
+    one16_says : (p : RmPart) → ◌≡◌ {A = Result RmPart (Refusal RmPart)} (Ok (one16 f rm i.mem_displ)) (Ok p) → Says f m must vsib i 2 p
     one16_says p e = go (lowest f (to_z w16 (i.mem_displ % 65536))) refl e
       where
-        go : (o : Option ℤ) → lowest f (to_z w16 (i.mem_displ % 65536)) ≡ o → ◌≡◌ {A = Result RmPart Refusal} (Ok (one16_of o rm (i.mem_displ % 65536))) (Ok p) → Says f m must vsib i 2 p
+        go : (o : Option ℤ) → lowest f (to_z w16 (i.mem_displ % 65536)) ≡ o → ◌≡◌ {A = Result RmPart (Refusal RmPart)} (Ok (one16_of o rm (i.mem_displ % 65536))) (Ok p) → Says f m must vsib i 2 p
         go (Some v) l e =
             let k = lowest_some f (to_z w16 (i.mem_displ % 65536)) v l in
             let w = row i.memory.base.number i.memory.index.number rm 1 r some (λ z. absurd (omega arith)) in
@@ -133,7 +133,7 @@ module _ (f : ℤ → ℤ) (m : Mode) (must : Bool) (vsib : Option RegisterRange
     sized16_says p size bp e = go (eqb size 1) refl (eqb size 0) refl (eqb i.mem_displ 0) refl (eqb size 2) e
       where
         go : (a : Bool) → eqb size 1 ≡ a → (b : Bool) → eqb size 0 ≡ b → (c : Bool) → eqb i.mem_displ 0 ≡ c → (d : Bool)
-            → ◌≡◌ {A = Result RmPart Refusal} (cond a (Ok (one16 f rm i.mem_displ)) (cond b (cond c (Ok (plain_part 0 rm D.Absent)) (refusing F.DisplacementNotZero (plain_part 0 rm D.Absent))) (cond d (Ok (plain_part 2 rm (D.Size2 (i.mem_displ % 65536)))) (refusing F.Size16 (plain_part 0 rm D.Absent))))) (Ok p)
+            → ◌≡◌ {A = Result RmPart (Refusal RmPart)} (cond a (Ok (one16 f rm i.mem_displ)) (cond b (cond c (Ok (plain_part 0 rm D.Absent)) (refusing F.DisplacementNotZero (plain_part 0 rm D.Absent))) (cond d (Ok (plain_part 2 rm (D.Size2 (i.mem_displ % 65536)))) (refusing F.Size16 (plain_part 0 rm D.Absent))))) (Ok p)
             → Says f m must vsib i 2 p
         go true x b y c z d h = one16_says p h
         go false x true y true z d h = none16 p (bp (grind (arith, nat_tests))) (grind (arith, nat_tests)) h
@@ -147,7 +147,7 @@ module _ (f : ℤ → ℤ) (m : Mode) (must : Bool) (vsib : Option RegisterRange
         go (eqb i.memory.base.number 26 && eqb i.memory.index.number 0) refl (eqb size 0) refl (eqb i.mem_displ 0) a.1
       where
         go : (bp : Bool) → (eqb i.memory.base.number 26 && eqb i.memory.index.number 0) ≡ bp → (z : Bool) → eqb size 0 ≡ z → (c : Bool)
-            → ◌≡◌ {A = Result RmPart Refusal} (cond (bp && z) (cond c (sized16 f rm i.mem_displ 1) (refusing F.DisplacementNotZero (plain_part 0 rm D.Absent))) (sized16 f rm i.mem_displ size)) (Ok p) → Says f m must vsib i 2 p
+            → ◌≡◌ {A = Result RmPart (Refusal RmPart)} (cond (bp && z) (cond c (sized16 f rm i.mem_displ 1) (refusing F.DisplacementNotZero (plain_part 0 rm D.Absent))) (sized16 f rm i.mem_displ size)) (Ok p) → Says f m must vsib i 2 p
         go true x true y true h = sized16_says p 1 (λ q. absurd (omega arith)) h
         go true x true y false h = no_err _ p h
         go true x false y c h = sized16_says p size (λ q. clash (eqb size 0) (rw q refl) y) h
@@ -160,7 +160,7 @@ mem16_says f m must vsib i p n e =
     go (rm16 i.memory.base.number i.memory.index.number) refl (eqb i.memory.base.number 0 && eqb i.memory.index.number 0) refl a.0 a.1
   where
     go : (o : Option ℕ) → rm16 i.memory.base.number i.memory.index.number ≡ o → (z : Bool) → (eqb i.memory.base.number 0 && eqb i.memory.index.number 0) ≡ z → is64 m ≡ false
-        → ◌≡◌ {A = Result RmPart Refusal} (elim o [ None ↦ refusing F.Registers16 blank | Some rm ↦ cond z (offset16 i.mem_displ) (based16 f rm (eqb i.memory.base.number 26 && eqb i.memory.index.number 0) i.mem_displ (displ_bytes i.memory.displ_size)) ]) (Ok p)
+        → ◌≡◌ {A = Result RmPart (Refusal RmPart)} (elim o [ None ↦ refusing F.Registers16 blank | Some rm ↦ cond z (offset16 i.mem_displ) (based16 f rm (eqb i.memory.base.number 26 && eqb i.memory.index.number 0) i.mem_displ (displ_bytes i.memory.displ_size)) ]) (Ok p)
         → Says f m must vsib i 2 p
     go None r z b t h = no_err _ p h
     go (Some rm) r true b t h = offset16_says f m must vsib i n t p (grind (arith, nat_tests)) (grind (arith, nat_tests)) h

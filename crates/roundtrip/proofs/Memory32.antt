@@ -146,7 +146,7 @@ module _ (f : ℤ → ℤ) (m : Mode) (must : Bool) (vsib : Option RegisterRange
       go (eqb i.memory.base.number 70) refl (ltb 4294967295 i.mem_displ) d.1 (not-false _ c.0) (no_sib_asked must vsib v d.0) x
     where
       go : (t : Bool) → eqb i.memory.base.number 70 ≡ t → (far : Bool)
-          → ◌≡◌ {A = Result RmPart Refusal} (cond t (Ok (plain_part 0 5 (D.RipRelSize4Target64 i.mem_displ))) (cond far (refusing F.EipTarget (plain_part 0 5 (D.RipRelSize4Target32 0))) (Ok (plain_part 0 5 (D.RipRelSize4Target32 (i.mem_displ % 4294967296)))))) (Ok p)
+          → ◌≡◌ {A = Result RmPart (Refusal RmPart)} (cond t (Ok (plain_part 0 5 (D.RipRelSize4Target64 i.mem_displ))) (cond far (refusing F.EipTarget (plain_part 0 5 (D.RipRelSize4Target32 0))) (Ok (plain_part 0 5 (D.RipRelSize4Target32 (i.mem_displ % 4294967296)))))) (Ok p)
           → is64 m ≡ true → (is_some vsib ≡ false) × ((must || is_some vsib) ≡ false) → i.memory.index.number ≡ 0 → Says f m must vsib i (address_bytes m i) p
       go true t far h w n x =
           let b : i.memory.base.number ≡ 70 = grind (arith, nat_tests) in
@@ -230,7 +230,7 @@ module _ (f : ℤ → ℤ) (m : Mode) (must : Bool) (vsib : Option RegisterRange
         here q z s = coe 0 1 (j. Says f m must vsib i width (z j)) s
 
         go : (t : Bool) → (is64 m || (not (eqb (scale_number i.memory.scale) 0) || must)) ≡ t
-            → ◌≡◌ {A = Result RmPart Refusal} (cond t (Ok (offset_part (scale_number i.memory.scale))) (Ok (plain_part 0 5 (D.Size4 (i.mem_displ % 4294967296))))) (Ok p) → Says f m must vsib i width p
+            → ◌≡◌ {A = Result RmPart (Refusal RmPart)} (cond t (Ok (offset_part (scale_number i.memory.scale))) (Ok (plain_part 0 5 (D.Size4 (i.mem_displ % 4294967296))))) (Ok p) → Says f m must vsib i width p
         go true t h = here _ (same_ok _ p h) (sib_offset_says (scale_number i.memory.scale) (scale_small i.memory.scale))
         go false t h =
             let parts = or_parts (is64 m) _ t in

@@ -96,7 +96,7 @@ module _ (sp : Spread) (m : Mode) (r : Record) (i : Instruction) (at : Place) wh
   unfolding rm_memory
   memory_wrote must vsib p e = go (mem_sized (sp r (broadcasts r i)) m (address_bytes m i) must vsib i) refl e
     where
-      go : (a : Result RmPart Refusal) → mem_sized (sp r (broadcasts r i)) m (address_bytes m i) must vsib i ≡ a → (memory_step p (not (eqb (address_bytes m i) (mode_bytes m))) (broadcasts r i) a).fault ≡ None
+      go : (a : Result RmPart (Refusal RmPart)) → mem_sized (sp r (broadcasts r i)) m (address_bytes m i) must vsib i ≡ a → (memory_step p (not (eqb (address_bytes m i) (mode_bytes m))) (broadcasts r i) a).fault ≡ None
           → MemoryWrote sp m r i must vsib p (memory_step p (not (eqb (address_bytes m i) (mode_bytes m))) (broadcasts r i) a).parts
       go (Ok part) a e = record { part = part; is = a; parts = refl }
       go (Err f) a e = refused f.fault e

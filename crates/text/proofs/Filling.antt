@@ -2,7 +2,7 @@
 use Rattle.std.proofs.Common.{◌≡◌, ℕ, suc, ◌+◌, ◌-◌, ◌<◌, ◌≤◌, List, length, set, Ok, Err, Result, sym, ap, ◌∙◌, arith, le-ltb, lt-ltb}
 use Rattle.text.specs.declared.case_fault.CaseFault.{CaseFault}
 use Rattle.text.specs.declared.case_fault.CaseFault.TheVariants.{TooMany}
-use Rattle.text.specs.declared.number.Number.{Number}
+use Rattle.text.specs.declared.numbers.Number.{Number}
 use Rattle.text.specs.declared.numbers.Numbers.{Numbers}
 use Rattle.text.specs.Line.{item_of, after, read_from}
 

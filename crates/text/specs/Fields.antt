@@ -1,4 +1,4 @@
-use Rattle.std.specs.Prelude.{ℕ, ◌+◌, cond, List, Some, None, Ok, Err, Option, Result, ◌==◌, slice_index_or}
+use Rattle.std.specs.Prelude.{ℕ, ◌+◌, cond, List, ℤ, Some, None, Ok, Err, Option, Result, ◌==◌, slice_index_or}
 use Rattle.instruction.specs.declared.raw.RawInstruction.{RawInstruction}
 use Rattle.record.specs.declared.head.EvexHead.{EvexHead}
 use Rattle.record.specs.declared.head.Head.{Head}
@@ -11,16 +11,15 @@ use Rattle.record.specs.declared.op.Operands.{Operands}
 use Rattle.record.specs.declared.op.RegisterRange.{RegisterRange}
 use Rattle.record.specs.declared.raw.RawRecord.{RawRecord}
 use Rattle.text.specs.Line.{nothing, numbers_of}
-use Rattle.text.specs.Numbers.{byte_of, word_of, small_of, flag_of, kind_of, code_size_of}
+use Rattle.text.specs.Numbers.{byte_of, word_of, long_of, small_of, flag_of, kind_of, code_size_of}
 use Rattle.text.specs.declared.case.Case.{Case}
 use Rattle.instruction.specs.declared.settings.RawSettings.{RawSettings}
 use Rattle.text.specs.declared.case_fault.CaseFault.{CaseFault}
-use Rattle.text.specs.declared.number.Number.{Number}
 use Rattle.text.specs.declared.numbers.Numbers.{Numbers}
 
 -- the number of a place
-abbrev pub nth : Numbers → ℕ → Number
-nth ns p = slice_index_or ns.all p nothing
+abbrev pub nth : Numbers → ℕ → ℤ
+nth ns p = (slice_index_or ns.all p nothing).0
 
 abbrev pub settings_of : Numbers → RawSettings
 settings_of ns = record { prevent_vex2 = byte_of (nth ns 2); vex_wig = byte_of (nth ns 3); vex_lig = byte_of (nth ns 4); evex_wig = byte_of (nth ns 5); evex_lig = byte_of (nth ns 6) }
@@ -35,7 +34,7 @@ abbrev pub evex_of : Numbers → EvexHead
 evex_of ns = record { table = byte_of (nth ns 17); p1_bits = byte_of (nth ns 18); ll_bits = byte_of (nth ns 19); mask_w = byte_of (nth ns 20); mask_ll = byte_of (nth ns 21) }
 
 abbrev pub head_of : Numbers → Head
-head_of ns = cond ((nth ns 7).size == 0) (Legacy (legacy_of ns)) (cond ((nth ns 7).size == 1) (Vex (vex_of ns)) (Evex (evex_of ns)))
+head_of ns = cond (long_of (nth ns 7) == 0) (Legacy (legacy_of ns)) (cond (long_of (nth ns 7) == 1) (Vex (vex_of ns)) (Evex (evex_of ns)))
 
 abbrev pub range_of : Numbers → ℕ → RegisterRange
 range_of ns p = record { lo = byte_of (nth ns p); hi = byte_of (nth ns (p + 1)) }
@@ -43,18 +42,18 @@ range_of ns p = record { lo = byte_of (nth ns p); hi = byte_of (nth ns (p + 1)) 
 -- the operand whose kind stands at a place
 abbrev pub operand_of : Numbers → ℕ → Option Op
 operand_of ns p =
-    cond ((nth ns p).size == 1) (Some (ModRmRm (range_of ns (p + 1)))) (
-    cond ((nth ns p).size == 2) (Some (ModRmRmMemOnly (flag_of (nth ns (p + 1))))) (
-    cond ((nth ns p).size == 3) (Some (Vsib (range_of ns (p + 1)))) (
-    cond ((nth ns p).size == 4) (Some O) (
-    cond ((nth ns p).size == 5) (Some (ModRmReg (range_of ns (p + 1)))) (
-    cond ((nth ns p).size == 6) (Some (RegEmbed8 (range_of ns (p + 1)))) (
-    cond ((nth ns p).size == 7) (Some (Reg (byte_of (nth ns (p + 1))))) (
-    cond ((nth ns p).size == 8) (Some (Hx (range_of ns (p + 1)))) (
-    cond ((nth ns p).size == 9) (Some (Ib (kind_of (nth ns (p + 1))))) (
-    cond ((nth ns p).size == 10) (Some (Id (kind_of (nth ns (p + 1))))) (
-    cond ((nth ns p).size == 11) (Some Iq) (
-    cond ((nth ns p).size == 12) (Some (J (kind_of (nth ns (p + 1))) (byte_of (nth ns (p + 2))))) None)))))))))))
+    cond (long_of (nth ns p) == 1) (Some (ModRmRm (range_of ns (p + 1)))) (
+    cond (long_of (nth ns p) == 2) (Some (ModRmRmMemOnly (flag_of (nth ns (p + 1))))) (
+    cond (long_of (nth ns p) == 3) (Some (Vsib (range_of ns (p + 1)))) (
+    cond (long_of (nth ns p) == 4) (Some O) (
+    cond (long_of (nth ns p) == 5) (Some (ModRmReg (range_of ns (p + 1)))) (
+    cond (long_of (nth ns p) == 6) (Some (RegEmbed8 (range_of ns (p + 1)))) (
+    cond (long_of (nth ns p) == 7) (Some (Reg (byte_of (nth ns (p + 1))))) (
+    cond (long_of (nth ns p) == 8) (Some (Hx (range_of ns (p + 1)))) (
+    cond (long_of (nth ns p) == 9) (Some (Ib (kind_of (nth ns (p + 1))))) (
+    cond (long_of (nth ns p) == 10) (Some (Id (kind_of (nth ns (p + 1))))) (
+    cond (long_of (nth ns p) == 11) (Some Iq) (
+    cond (long_of (nth ns p) == 12) (Some (J (kind_of (nth ns (p + 1))) (byte_of (nth ns (p + 2))))) None)))))))))))
 
 abbrev pub operands_of : Numbers → Operands
 operands_of ns = record { op0 = operand_of ns 22; op1 = operand_of ns 25; op2 = operand_of ns 28; op3 = operand_of ns 31; op4 = operand_of ns 34 }
@@ -85,7 +84,7 @@ instruction_of ns = record {
   index = byte_of (nth ns 43);
   scale = byte_of (nth ns 44);
   displ_size = byte_of (nth ns 45);
-  mem_displ = (nth ns 46).size;
+  mem_displ = long_of (nth ns 46);
   immediate = word_of (nth ns 47);
   kind0 = byte_of (nth ns 48);
   kind1 = byte_of (nth ns 49);
@@ -104,7 +103,7 @@ instruction_of ns = record {
 
 -- the case that 61 numbers stand for
 abbrev pub case_of : Numbers → Case
-case_of ns = record { mode = (nth ns 0).size; rip = (nth ns 1).size; settings = settings_of ns; «record» = record_of ns; instruction = instruction_of ns }
+case_of ns = record { mode = long_of (nth ns 0); rip = long_of (nth ns 1); settings = settings_of ns; «record» = record_of ns; instruction = instruction_of ns }
 
 -- the case of a line
 abbrev pub parse_of : List ℕ → Result Case CaseFault

@@ -1,13 +1,14 @@
-use Rattle.std.specs.Prelude.{ℕ, zero, suc, ◌+◌, Bool, false, cond, not, ◌&&◌, ◌||◌, List, length, drop, replicate, Some, None, Ok, Err, Option, Result, ◌==◌, nat_lt, slice_range, slice_set}
+use Rattle.std.specs.Prelude.{ℕ, zero, suc, ◌+◌, Bool, cond, not, ◌&&◌, ◌||◌, List, length, drop, replicate, pos, Some, None, Ok, Err, Option, Result, ◌==◌, nat_lt, int_lt, slice_range, slice_set}
+use Rattle.std.specs.Ordering.{int_eq}
 use Rattle.std.specs.List.{prefix_len}
 use Rattle.text.specs.Numbers.{signed_of}
 use Rattle.text.specs.declared.case_fault.CaseFault.{CaseFault}
 use Rattle.text.specs.declared.case_fault.CaseFault.TheVariants.{NotNumber, TooFew, TooMany, NotHeld}
-use Rattle.text.specs.declared.number.Number.{Number}
+use Rattle.text.specs.declared.numbers.Number.{Number}
 use Rattle.text.specs.declared.numbers.Numbers.{Numbers}
 
 abbrev pub nothing : Number
-nothing = record { negative = false; size = 0 }
+nothing = record { 0 = pos 0 }
 
 abbrev is_flag_place : ℕ → Bool
 is_flag_place p = p == 14 || (p == 39 || (p == 40 || (p == 41 || (p == 57 || (p == 58 || p == 59)))))
@@ -27,7 +28,7 @@ limit_of p n =
     cond (p == 12 || p == 13) (Some 3) (
     cond (is_flag_place p) (Some 1) (
     cond (is_kind_place p) (Some 12) (
-    cond (after_kind_place p && n.size == 2) (Some 1) (
+    cond (after_kind_place p && int_eq n.0 (pos 2)) (Some 1) (
     cond (p == 45) (Some 255) None)))))))
 
 abbrev pub in_piece : ℕ → Bool
@@ -39,14 +40,14 @@ piece_end l at = at + prefix_len in_piece (drop at l)
 
 -- the number between two places that are a space or an end of the line, and the second place
 abbrev pub number_at : List ℕ → ℕ → Option (Number × ℕ)
-number_at l at = elim (signed_of (slice_range l at (piece_end l at))) [ Some n ↦ Some (n, piece_end l at) | None ↦ None ]
+number_at l at = elim (signed_of (slice_range l at (piece_end l at))) [ Some n ↦ Some (record { 0 = n }, piece_end l at) | None ↦ None ]
 
 -- where the number of a place begins, after what ended at `at`
 abbrev pub start_from : List ℕ → ℕ → ℕ → Option ℕ
 start_from l at p = cond (p == 0) (Some 0) (cond (nat_lt at (length l)) (Some (at + 1)) None)
 
 abbrev pub held : Option ℕ → ℕ → Number × ℕ → Result (Number × ℕ) CaseFault
-held (Some most) p x = cond (x.0.negative || nat_lt most x.0.size) (Err (NotHeld (p + 1) most)) (Ok x)
+held (Some most) p x = cond (int_lt x.0.0 (pos 0) || int_lt (pos most) x.0.0) (Err (NotHeld (p + 1) most)) (Ok x)
 held None p x = Ok x
 
 -- the number of a place, and where it ends
@@ -63,7 +64,7 @@ abbrev pub after : Result (Number × ℕ) CaseFault → (Number × ℕ → Resul
 after (Ok x) f = f x
 after (Err e) f = Err e
 
--- k numbers more from the place p on, put in among ns
+-- k numbers more from the place p on, put in among ns, after the number n
 unfoldable pub read_from : ℕ → List Number → ℕ → Number → List ℕ → ℕ → Result Numbers CaseFault
 read_from zero ns p n l at = cond (nat_lt at (length l)) (Err TooMany) (Ok record { all = ns })
 read_from (suc k) ns p n l at = after (item_of l at p n) (λ x. read_from k (slice_set ns p x.0) (p + 1) x.0 l x.1)

@@ -1,4 +1,4 @@
-use Rattle.std.specs.Prelude.{ℕ, ◌+◌, true, false, cond, List, [], ◌∷◌, take, drop, Some, None, codes, Option, ◌==◌, slice_index}
+use Rattle.std.specs.Prelude.{ℕ, ◌+◌, ◌-◌, true, false, cond, ◌&&◌, List, ◌++◌, length, replicate, take, drop, Some, None, codes, Option, ◌==◌, nat_le, slice_index}
 use Rattle.std.specs.List.{position}
 use Rattle.std.specs.Str.{bytes_eq}
 use Rattle.machine.specs.declared.op_kind.OpKind.{OpKind}
@@ -73,13 +73,7 @@ branch_kind w =
 
 -- a name of two to five bytes, filled up with zeros
 abbrev pub five : List ℕ → Option (List ℕ)
-five [] = None
-five (a ∷ []) = None
-five (a ∷ b ∷ []) = Some (a ∷ b ∷ 0 ∷ 0 ∷ 0 ∷ [])
-five (a ∷ b ∷ c ∷ []) = Some (a ∷ b ∷ c ∷ 0 ∷ 0 ∷ [])
-five (a ∷ b ∷ c ∷ d ∷ []) = Some (a ∷ b ∷ c ∷ d ∷ 0 ∷ [])
-five (a ∷ b ∷ c ∷ d ∷ e ∷ []) = Some (a ∷ b ∷ c ∷ d ∷ e ∷ [])
-five (a ∷ b ∷ c ∷ d ∷ e ∷ f ∷ w) = None
+five w = cond (nat_le 2 (length w) && nat_le (length w) 5) (Some (w ++ replicate (5 - length w) 0)) None
 
 -- a register by its name, or by its number
 abbrev pub fixed_word : List ℕ → Option ℕ

@@ -1,7 +1,7 @@
-use Rattle.std.specs.Prelude.{ℕ, cond, ◌&&◌, ◌||◌, List, ℤ, Some, None, Option, ◌==◌, nat_le}
+use Rattle.std.specs.Prelude.{ℕ, cond, List, ℤ, Some, None, Option, nat_le}
 use Rattle.numerals.specs.Numbers.{number_of}
 use Rattle.numerals.specs.declared.Radix.{Radix}
-use Rattle.text.specs.Numbers.{signed_of, small_of}
+use Rattle.text.specs.Numbers.{signed_of, signed_byte}
 
 -- the number that a whole text is, where it is at most m
 abbrev pub whole_of : Radix → List ℕ → ℕ → Option ℕ
@@ -9,7 +9,4 @@ whole_of r t m = elim (number_of r t) [ Some v ↦ cond (nat_le v m) (Some v) No
 
 -- the signed byte that a text is
 abbrev pub small_word : List ℕ → Option ℤ
-small_word t = elim (signed_of t) [
-  | Some n ↦ cond (nat_le n.size 127 || (n.negative && n.size == 128)) (Some (small_of n)) None
-  | None ↦ None
-]
+small_word t = elim (signed_of t) [ Some n ↦ signed_byte n | None ↦ None ]

@@ -1,4 +1,6 @@
 // The words of a row's opcode.
+#![tactic(auto, using(crate::proofs::Words::word_decides))]
+
 ghost use Rattle.std.specs.Prelude.{◌≡◌};
 ghost use Rattle.text.specs.CodeWords.{code_named, code_word};
 
@@ -19,7 +21,6 @@ pub(crate) fn code_named(word: &[u8]) -> Option<CodePart>
 }
 
 // an opcode with one word more
-#[tactic(auto, using(crate::proofs::Words::word_decides))]
 pub(crate) fn code_word(code: CodePart, word: Word) -> Option<CodePart>
     ensures { result ≡ code_word code word.entry.key.now word.entry.mark word.entry.arg.now }
 {

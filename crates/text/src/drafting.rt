@@ -97,6 +97,7 @@ impl Draft {
             Some(operand_word(Word::new(word))?)
         };
         let mut operands = self.operands;
+        // not by get_mut: what the array holds after a write through it stayed open
         let place = self.words as usize;
         if place >= operands.len() {
             return None;
@@ -147,7 +148,7 @@ impl Draft {
         requires { place.from < place.to }
         ensures { result ≡ step_of self word.now place }
     {
-        self.word(word, place).ok_or(RowFault {
+        self.word(word, place).ok_or_else(|| RowFault {
             column: place.from + 1,
             wanted: self.wanted(),
         })

@@ -1,4 +1,6 @@
 // The words of a row's flags.
+#![tactic(auto, using(crate::proofs::Words::word_decides))]
+
 ghost use Rattle.std.specs.Prelude.{◌≡◌};
 ghost use Rattle.text.specs.FlagWords.{flag_weight, width_named, flag_name, flag_value, flag_word};
 
@@ -9,7 +11,6 @@ use machine::CodeSize;
 use numerals::Radix;
 
 // the bit of a flag's word
-#[tactic(auto, using(crate::proofs::Words::word_decides))]
 fn flag_weight(word: &[u8]) -> Option<u32>
     ensures { result ≡ flag_weight word.now }
 {
@@ -29,7 +30,6 @@ fn flag_weight(word: &[u8]) -> Option<u32>
 }
 
 // a width by its number of bits
-#[tactic(auto, using(crate::proofs::Words::word_decides))]
 fn width_named(word: &[u8]) -> Option<CodeSize>
     ensures { result ≡ width_named word.now }
 {
@@ -62,7 +62,6 @@ fn flag_name(flags: FlagPart, word: &[u8]) -> Option<FlagPart>
     })
 }
 
-#[tactic(auto, using(crate::proofs::Words::word_decides))]
 fn flag_value(flags: FlagPart, key: &[u8], arg: &[u8]) -> Option<FlagPart>
     ensures { result ≡ flag_value flags key.now arg.now }
 {

@@ -1,4 +1,6 @@
 // The words of a row's head.
+#![tactic(auto, using(crate::proofs::Words::word_decides))]
+
 ghost use Rattle.std.specs.Prelude.{◌≡◌};
 ghost use Rattle.text.specs.HeadWords.{head_named, legacy_byte, legacy_word, vex_word, evex_word, head_word};
 
@@ -8,7 +10,6 @@ use numerals::Radix;
 use record::{EvexHead, Head, LegacyHead, VexHead};
 
 // a head by its first word, with nothing said of it yet
-#[tactic(auto, using(crate::proofs::Words::word_decides))]
 pub(crate) fn head_named(word: &[u8]) -> Option<Head>
     ensures { result ≡ head_named word.now }
 {
@@ -57,96 +58,77 @@ fn legacy_byte(head: LegacyHead, byte: u8) -> Option<LegacyHead>
     }
 }
 
-#[tactic(auto, using(crate::proofs::Words::word_decides))]
 fn legacy_word(head: LegacyHead, word: Word) -> Option<LegacyHead>
     ensures { result ≡ legacy_word head word.entry.key.now word.entry.mark word.entry.arg.now }
 {
-    match word.mark {
-        None => return legacy_byte(head, byte_word(Radix::Hexadecimal, word.key)?),
-        Some(b'=') => {}
-        Some(_) => return None,
-    }
-    let byte = byte_word(Radix::Hexadecimal, word.arg)?;
-    match word.key {
-        b"table1" => Some(LegacyHead {
-            table_byte1: byte,
+    let byte = || byte_word(Radix::Hexadecimal, word.arg);
+    match (word.mark, word.key) {
+        (None, key) => legacy_byte(head, byte_word(Radix::Hexadecimal, key)?),
+        (Some(b'='), b"table1") => Some(LegacyHead {
+            table_byte1: byte()?,
             ..head
         }),
-        b"table2" => Some(LegacyHead {
-            table_byte2: byte,
+        (Some(b'='), b"table2") => Some(LegacyHead {
+            table_byte2: byte()?,
             ..head
         }),
-        b"prefix" => Some(LegacyHead {
-            mandatory_prefix: byte,
+        (Some(b'='), b"prefix") => Some(LegacyHead {
+            mandatory_prefix: byte()?,
             ..head
         }),
         _ => None,
     }
 }
 
-#[tactic(auto, using(crate::proofs::Words::word_decides))]
 fn vex_word(head: VexHead, word: Word) -> Option<VexHead>
     ensures { result ≡ vex_word head word.entry.key.now word.entry.mark word.entry.arg.now }
 {
-    match word.mark {
-        None => {
-            return match word.key {
-                b"w1" => Some(VexHead { w1: true, ..head }),
-                _ => None,
-            };
-        }
-        Some(b'=') => {}
-        Some(_) => return None,
-    }
-    let byte = byte_word(Radix::Hexadecimal, word.arg)?;
-    match word.key {
-        b"table" => Some(VexHead {
-            table: byte,
+    let byte = || byte_word(Radix::Hexadecimal, word.arg);
+    match (word.mark, word.key) {
+        (None, b"w1") => Some(VexHead { w1: true, ..head }),
+        (Some(b'='), b"table") => Some(VexHead {
+            table: byte()?,
             ..head
         }),
-        b"last" => Some(VexHead {
-            last_byte: byte,
+        (Some(b'='), b"last") => Some(VexHead {
+            last_byte: byte()?,
             ..head
         }),
-        b"mask_w_l" => Some(VexHead {
-            mask_w_l: byte,
+        (Some(b'='), b"mask_w_l") => Some(VexHead {
+            mask_w_l: byte()?,
             ..head
         }),
-        b"mask_l" => Some(VexHead {
-            mask_l: byte,
+        (Some(b'='), b"mask_l") => Some(VexHead {
+            mask_l: byte()?,
             ..head
         }),
         _ => None,
     }
 }
 
-#[tactic(auto, using(crate::proofs::Words::word_decides))]
 fn evex_word(head: EvexHead, word: Word) -> Option<EvexHead>
     ensures { result ≡ evex_word head word.entry.key.now word.entry.mark word.entry.arg.now }
 {
-    let Some(b'=') = word.mark else {
-        return None;
-    };
-    let byte = byte_word(Radix::Hexadecimal, word.arg)?;
-    match word.key {
-        b"table" => Some(EvexHead {
-            table: byte,
+    let byte = || byte_word(Radix::Hexadecimal, word.arg);
+    match (word.mark, word.key) {
+        (Some(b'='), b"table") => Some(EvexHead {
+            table: byte()?,
             ..head
         }),
-        b"p1" => Some(EvexHead {
-            p1_bits: byte,
+        (Some(b'='), b"p1") => Some(EvexHead {
+            p1_bits: byte()?,
             ..head
         }),
-        b"ll" => Some(EvexHead {
-            ll_bits: byte,
+        (Some(b'='), b"ll") => Some(EvexHead {
+            ll_bits: byte()?,
             ..head
         }),
-        b"mask_w" => Some(EvexHead {
-            mask_w: byte,
+        (Some(b'='), b"mask_w") => Some(EvexHead {
+            mask_w: byte()?,
             ..head
         }),
-        b"mask_ll" => Some(EvexHead {
-            mask_ll: byte,
+        (Some(b'='), b"mask_ll") => Some(EvexHead {
+            mask_ll: byte()?,
             ..head
         }),
         _ => None,

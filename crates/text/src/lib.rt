@@ -10,7 +10,6 @@ mod drafting;
 mod fields;
 mod flag_words;
 mod head_words;
-mod number;
 mod numbers;
 mod operand_words;
 mod parsing;

@@ -1,10 +1,17 @@
 // The 61 numbers of a case line.
-ghost use Rattle.std.specs.Prelude.{◌≡◌, ◌<◌, ◌≤◌, length, slice_index_or};
+ghost use Rattle.std.specs.Prelude.{◌≡◌, ◌<◌, ◌≤◌, length};
 ghost use Rattle.std.specs.List.{prefix_len};
-ghost use Rattle.text.specs.Line.{in_piece, number_at, limit_of, start_from, item_of, numbers_of, nothing};
+ghost use Rattle.text.specs.Line.{in_piece, number_at, limit_of, start_from, item_of, numbers_of};
+ghost use Rattle.text.specs.Fields.{nth};
+ghost use Rattle.text.specs.Numbers.{byte_of, word_of, long_of, small_of, flag_of, kind_of, code_size_of};
 
 use super::case_fault::CaseFault;
-use super::number::Number;
+use super::values::signed;
+use machine::{Code, CodeSize, OpKind};
+
+// A number as it is written, below 2^64 with a sign.
+#[derive(Clone, Copy)]
+struct Number(i128);
 
 // All numbers of a line.
 #[derive(Clone, Copy)]
@@ -12,7 +19,7 @@ pub(crate) struct Numbers {
     all: [Number; 61],
 }
 
-// how many bytes come before the first space
+// how many bytes come before the first space; on its own, since inside `number_at` the chain's goals stayed open
 fn piece_len(text: &[u8]) -> usize
     ensures count { result ≡ prefix_len in_piece text.now }
     ensures within { result ≤ length text.now }
@@ -26,7 +33,7 @@ fn number_at(line: &[u8], from: usize) -> Option<(Number, usize)>
     ensures { result ≡ number_at line.now from }
 {
     let end = from + piece_len(&line[from..]);
-    Some((Number::parse(&line[from..end])?, end))
+    Some((Number(signed(&line[from..end])?), end))
 }
 
 // the largest number that can be held at a place after the number `last`; none where any number can
@@ -34,13 +41,13 @@ fn limit(place: u8, last: Number) -> Option<u64>
     ensures { result ≡ limit_of place last }
 {
     match place {
-        0 | 1 | 46 => Some(0xFFFF_FFFF_FFFF_FFFF),
+        0 | 1 | 46 => Some(u64::MAX),
         7 => Some(2),
         11 | 47 => Some(0xFFFF_FFFF),
         12 | 13 => Some(3),
         14 | 39 | 40 | 41 | 57 | 58 | 59 => Some(1),
         22 | 25 | 28 | 31 | 34 => Some(12),
-        23 | 26 | 29 | 32 | 35 if last.size == 2 => Some(1),
+        23 | 26 | 29 | 32 | 35 if last.0 == 2 => Some(1),
         45 => Some(255),
         _ => None,
     }
@@ -64,31 +71,27 @@ fn item(line: &[u8], at: usize, place: u8, last: Number) -> Result<(Number, usiz
     requires { place < 61 }
     ensures { result ≡ item_of line.now at place last }
 {
-    let Some(from) = start(line, at, place) else {
-        return Err(CaseFault::TooFew(place));
-    };
-    let Some((number, end)) = number_at(line, from) else {
-        return Err(CaseFault::NotNumber(place + 1));
-    };
-    if let Some(most) = limit(place, last) {
-        if number.negative || number.size > most {
-            return Err(CaseFault::NotHeld(place + 1, most));
-        }
+    let from = start(line, at, place).ok_or(CaseFault::TooFew(place))?;
+    let (number, end) = number_at(line, from).ok_or(CaseFault::NotNumber(place + 1))?;
+    match limit(place, last) {
+        Some(most) if number.0 < 0 || number.0 > i128::from(most) => Err(CaseFault::NotHeld(
+            place + 1,
+            most,
+        )),
+        _ => Ok((number, end)),
     }
-    Ok((number, end))
 }
 
 impl Numbers {
     // the numbers of a line
+    #[tactic(auto, using(crate::proofs::Filling::read_err, crate::proofs::Filling::read_more, crate::proofs::Filling::read_end))]
     pub(crate) fn read(line: &[u8]) -> Result<Numbers, CaseFault>
         ensures { result ≡ numbers_of line.now }
     {
-        let mut last = Number {
-            negative: false,
-            size: 0,
-        };
+        let mut last = Number(0);
         let mut all = [last; 61];
         let mut at = 0;
+        // by number, since limits and faults go by it
         for place in 0..61u8 {
             let (number, end) = item(line, at, place, last)?;
             all[place as usize] = number;
@@ -101,11 +104,59 @@ impl Numbers {
         Ok(Numbers { all })
     }
 
-    // the number of a place
-    pub(crate) fn at(&self, place: u8) -> Number
+    // the number of a place as a byte, 255 where none fits
+    pub(crate) fn byte(&self, place: usize) -> u8
         requires { place < 61 }
-        ensures { result ≡ slice_index_or self.now.all place nothing }
+        ensures { result ≡ byte_of (nth self.now place) }
     {
-        self.all[place as usize]
+        u8::try_from(self.all[place].0).unwrap_or(u8::MAX)
+    }
+
+    // the number of a place as 32 bits, the largest where they do not fit
+    pub(crate) fn word(&self, place: usize) -> u32
+        requires { place < 61 }
+        ensures { result ≡ word_of (nth self.now place) }
+    {
+        u32::try_from(self.all[place].0).unwrap_or(u32::MAX)
+    }
+
+    // the number of a place as 64 bits, the largest where they do not fit
+    pub(crate) fn long(&self, place: usize) -> u64
+        requires { place < 61 }
+        ensures { result ≡ long_of (nth self.now place) }
+    {
+        u64::try_from(self.all[place].0).unwrap_or(u64::MAX)
+    }
+
+    // the number of a place as a signed byte, 127 where none fits
+    pub(crate) fn small(&self, place: usize) -> i8
+        requires { place < 61 }
+        ensures { result ≡ small_of (nth self.now place) }
+    {
+        i8::try_from(self.all[place].0).unwrap_or(i8::MAX)
+    }
+
+    // the number of a place as a flag
+    pub(crate) fn flag(&self, place: usize) -> bool
+        requires { place < 61 }
+        ensures { result ≡ flag_of (nth self.now place) }
+    {
+        self.all[place].0 != 0
+    }
+
+    // the number of a place as an operand kind, Register where it is none
+    pub(crate) fn kind(&self, place: usize) -> OpKind
+        requires { place < 61 }
+        ensures { result ≡ kind_of (nth self.now place) }
+    {
+        OpKind::from_number(self.byte(place)).unwrap_or(OpKind::Register)
+    }
+
+    // the number of a place as a width, Unknown where it is none
+    pub(crate) fn code_size(&self, place: usize) -> CodeSize
+        requires { place < 61 }
+        ensures { result ≡ code_size_of (nth self.now place) }
+    {
+        CodeSize::from_number(self.byte(place)).unwrap_or(CodeSize::Unknown)
     }
 }

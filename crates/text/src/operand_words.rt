@@ -1,4 +1,6 @@
 // The words of a row's operands.
+#![tactic(auto, using(crate::proofs::Words::word_decides))]
+
 ghost use Rattle.std.specs.Prelude.{◌≡◌, ◌<◌, length, IfSome, ◌==◌};
 ghost use Rattle.std.specs.List.{position};
 ghost use Rattle.text.specs.OperandWords.{range_named, range_numbers, range_word, kind_code, imm_kind, branch_kind, five, fixed_word, plain_op, ranged_op, branch_size, branch_op, imm_op, marked_op, operand_word};
@@ -10,7 +12,6 @@ use numerals::Radix;
 use record::{Op, RegisterRange};
 
 // a bank of registers, of a vector bank the first 16 or all 32
-#[tactic(auto, using(crate::proofs::Words::word_decides))]
 fn range_named(word: &[u8]) -> Option<RegisterRange>
     ensures { result ≡ range_named word.now }
 {
@@ -31,7 +32,7 @@ fn range_named(word: &[u8]) -> Option<RegisterRange>
     }
 }
 
-// the place of the first `-`
+// the place of the first `-`; on its own, since inside `range_numbers` the chain's goals stayed open
 fn first_dash(word: &[u8]) -> Option<usize>
     ensures place { result ≡ position (λ b. b == 45) word.now }
     ensures within { IfSome result (λ at. at < length word.now) }
@@ -64,7 +65,6 @@ fn kind_code(word: &[u8]) -> Option<OpKind>
 }
 
 // the kind that an immediate expects, by its word or as `#` and a number
-#[tactic(auto, using(crate::proofs::Words::word_decides))]
 fn imm_kind(word: &[u8]) -> Option<OpKind>
     ensures { result ≡ imm_kind word.now }
 {
@@ -84,7 +84,6 @@ fn imm_kind(word: &[u8]) -> Option<OpKind>
 }
 
 // the kind that a branch expects, by its word or as `#` and a number
-#[tactic(auto, using(crate::proofs::Words::word_decides))]
 fn branch_kind(word: &[u8]) -> Option<OpKind>
     ensures { result ≡ branch_kind word.now }
 {
@@ -97,17 +96,16 @@ fn branch_kind(word: &[u8]) -> Option<OpKind>
     }
 }
 
-// a name of at most five bytes, filled up with zeros
+// a name of two to five bytes, filled up with zeros
 fn five(word: &[u8]) -> Option<[u8; 5]>
     ensures { result ≡ five word.now }
 {
-    match word {
-        [a, b] => Some([*a, *b, 0, 0, 0]),
-        [a, b, c] => Some([*a, *b, *c, 0, 0]),
-        [a, b, c, d] => Some([*a, *b, *c, *d, 0]),
-        [a, b, c, d, e] => Some([*a, *b, *c, *d, *e]),
-        _ => None,
+    if word.len() < 2 || word.len() > 5 {
+        return None;
     }
+    let mut name = [0; 5];
+    name[..word.len()].copy_from_slice(word);
+    Some(name)
 }
 
 // a register by its name, or by its number
@@ -121,7 +119,6 @@ fn fixed_word(word: &[u8]) -> Option<u8>
 }
 
 // an operand without an argument
-#[tactic(auto, using(crate::proofs::Words::word_decides))]
 fn plain_op(word: &[u8]) -> Option<Op>
     ensures { result ≡ plain_op word.now }
 {
@@ -135,7 +132,6 @@ fn plain_op(word: &[u8]) -> Option<Op>
 }
 
 // an operand over a range of registers
-#[tactic(auto, using(crate::proofs::Words::word_decides))]
 fn ranged_op(key: &[u8], range: RegisterRange) -> Option<Op>
     ensures { result ≡ ranged_op key.now range }
 {
@@ -150,7 +146,6 @@ fn ranged_op(key: &[u8], range: RegisterRange) -> Option<Op>
 }
 
 // the size of a branch's displacement, by its word or as `j` and a number
-#[tactic(auto, using(crate::proofs::Words::word_decides))]
 fn branch_size(key: &[u8]) -> Option<u8>
     ensures { result ≡ branch_size key.now }
 {
@@ -170,7 +165,6 @@ fn branch_op(key: &[u8], arg: &[u8]) -> Option<Op>
     Some(Op::J(branch_kind(arg)?, size))
 }
 
-#[tactic(auto, using(crate::proofs::Words::word_decides))]
 fn imm_op(key: &[u8], arg: &[u8]) -> Option<Op>
     ensures { result ≡ imm_op key.now arg.now }
 {

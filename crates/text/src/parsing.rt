@@ -81,10 +81,12 @@ impl Draft {
 }
 
 // all that the words of a line say
+#[tactic(auto, using(crate::proofs::Wording::word_err, crate::proofs::Wording::words_end))]
 fn drafted(line: &[u8]) -> Result<Draft, RowFault>
     ensures { result ≡ draft_of line.now }
 {
     let mut draft = Draft::new();
+    // by places of the line, since names and faults go by them
     let mut at = word_begin(line, 0);
     while at < line.len() {
         let to = word_end(line, at);

@@ -1,9 +1,9 @@
 // Numbers as a word's argument.
 ghost use Rattle.std.specs.Prelude.{◌≡◌};
+ghost use Rattle.text.specs.Numbers.{signed_of};
 ghost use Rattle.text.specs.Values.{whole_of, small_word};
 ghost use Rattle.numerals.specs.declared.Radix.TheVariants.{Hexadecimal};
 
-use super::number::Number;
 use numerals::{Radix, number};
 
 // the byte that the whole text is
@@ -20,14 +20,19 @@ pub(crate) fn bits_word(text: &[u8]) -> Option<u32>
     u32::try_from(number(Radix::Hexadecimal, text)?).ok()
 }
 
+// the decimal number that the whole text is, a minus before it or not
+pub(crate) fn signed(text: &[u8]) -> Option<i128>
+    ensures { result ≡ signed_of text.now }
+{
+    match text {
+        [b'-', digits @ ..] => Some(-i128::from(number(Radix::Decimal, digits)?)),
+        _ => Some(i128::from(number(Radix::Decimal, text)?)),
+    }
+}
+
 // the signed byte that the whole text is
 pub(crate) fn small_word(text: &[u8]) -> Option<i8>
     ensures { result ≡ small_word text.now }
 {
-    match Number::parse(text)? {
-        number if number.size <= 127 || (number.negative && number.size == 128) => Some(
-            number.small(),
-        ),
-        _ => None,
-    }
+    i8::try_from(signed(text)?).ok()
 }

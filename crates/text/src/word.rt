@@ -34,6 +34,8 @@ impl<'a> Word<'a> {
     }
 }
 
+// Each count stands on its own, since inside the functions that use it the chain's goals stayed open.
+
 // how many bytes come before the first mark
 fn key_len(word: &[u8]) -> usize
     ensures count { result ≡ prefix_len in_key word.now }
