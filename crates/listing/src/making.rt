@@ -1,8 +1,8 @@
 // The instruction that a line asks for, as numbers.
 ghost use Rattle.std.specs.Prelude.{◌≡◌, ◌<◌};
-ghost use Rattle.listing.specs.Drafts.{count_of};
 ghost use Rattle.listing.specs.Making.{expected_of, kind_of, number_of, register_of, displaced, imm_after, displ_with, displ_after, raw_size, usual_size, size_of, by_place_of, slot_at, slots_of, imm_of, displ_of, memory_of, fields_of, instruction_of};
 
+use super::drafting::count;
 use super::line::{Asked, Given, Memory};
 use super::line_fault::{ListingFault, Wanted};
 use instruction::RawInstruction;
@@ -133,16 +133,6 @@ impl Memory {
     {
         self.size.map_or(self.usual_size(mode), raw_size)
     }
-}
-
-// how many operands there are before the first place that has none
-pub(crate) fn count<T>(operands: &[Option<T>]) -> usize
-    ensures { result ≡ count_of operands.now }
-{
-    operands
-        .iter()
-        .take_while(|operand| operand.is_some())
-        .count()
 }
 
 // the operands of a record by place
