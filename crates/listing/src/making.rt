@@ -117,14 +117,17 @@ impl Memory {
     fn usual_size(&self, mode: u8) -> u8
         ensures { result ≡ usual_size mode self.now }
     {
-        match (self.base, self.index) {
-            (Some(base), _) if matches!(base.bank(), Some(Bank::Ip)) => 0,
-            (None, None) => match mode {
-                16 => 2,
-                32 => 3,
-                _ => 4,
-            },
-            _ => self.displ.is_some() as u8,
+        let bank = self.base.and_then(|base| base.bank());
+        if matches!(bank, Some(Bank::Ip)) {
+            return 0;
+        }
+        if self.base.is_some() || self.index.is_some() {
+            return self.displ.is_some() as u8;
+        }
+        match mode {
+            16 => 2,
+            32 => 3,
+            _ => 4,
         }
     }
 
