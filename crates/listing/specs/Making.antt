@@ -1,4 +1,4 @@
-use Rattle.std.specs.Prelude.{ℕ, ◌/◌, ◌%◌, Bool, true, false, cond, List, [], ◌∷◌, length, Some, None, Ok, Err, Option, Result, ◌==◌, nat_lt, slice_index, slice_index_or, fold, map, is_some, unwrap_or}
+use Rattle.std.specs.Prelude.{ℕ, ◌/◌, ◌%◌, Bool, true, false, cond, List, [], ◌∷◌, length, Some, None, Ok, Err, Option, Result, ◌==◌, nat_lt, slice_index, slice_index_or, fold, map, is_some, unwrap_or, option_and_then, ◌||◌}
 use Rattle.std.specs.List.{range_with_len}
 use Rattle.std.specs.Char.{to_ascii_uppercase}
 use Rattle.machine.specs.Banks.{bank_of}
@@ -106,10 +106,9 @@ ip_bank _ = false
 -- the number of the size where none is asked for
 abbrev pub usual_size : ℕ → Place → ℕ
 usual_size mode m =
-    cond (elim m.base [ Some x ↦ ip_bank (bank_of x.number) | None ↦ false ]) 0 (
-    cond (is_some m.base) (elim m.displ [ Some d ↦ 1 | None ↦ 0 ]) (
-    cond (is_some m.index) (elim m.displ [ Some d ↦ 1 | None ↦ 0 ]) (
-    cond (mode == 16) 2 (cond (mode == 32) 3 4))))
+    cond (ip_bank (option_and_then (λ x. bank_of x.number) m.base)) 0 (
+    cond (is_some m.base || is_some m.index) (cond (is_some m.displ) 1 0) (
+    cond (mode == 16) 2 (cond (mode == 32) 3 4)))
 
 abbrev pub size_of : ℕ → Place → ℕ
 size_of mode m = elim m.size [ Some s ↦ raw_size s | None ↦ usual_size mode m ]

@@ -1,11 +1,10 @@
 // How one thing more goes into a draft; none where another was expected.
 ghost use Rattle.std.specs.Prelude.{◌≡◌};
-ghost use Rattle.listing.specs.Drafts.{negated_of, put_of, dressed_of, wanted_of, fault_of, finish_of};
+ghost use Rattle.listing.specs.Drafts.{negated_of, count_of, put_of, dressed_of, wanted_of, fault_of, finish_of};
 
 use super::draft::{Draft, Stage};
 use super::line::{Asked, Dress, Given, Line};
 use super::line_fault::{ListingFault, Wanted};
-use super::making::count;
 use super::token::{Decoration, Mark, Token};
 use machine::{Code, Mode, Opmask, RoundingControl};
 
@@ -14,6 +13,16 @@ pub(crate) fn negated(number: u64) -> Option<u64>
     ensures { result ≡ negated_of number }
 {
     (number <= 0x8000_0000_0000_0000).then(|| number.wrapping_neg())
+}
+
+// how many operands there are before the first place that has none
+pub(crate) fn count<T>(operands: &[Option<T>]) -> usize
+    ensures { result ≡ count_of operands.now }
+{
+    operands
+        .iter()
+        .take_while(|operand| operand.is_some())
+        .count()
 }
 
 impl Asked {

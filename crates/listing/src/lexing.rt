@@ -69,8 +69,9 @@ fn mask(word: &[u8]) -> Option<Decoration>
     ensures { result ≡ mask_of word.now }
 {
     let register = register(word)?;
-    match (register.bank(), register.index()) {
-        (Some(Bank::Mask), number @ 1..) => Some(Decoration::Mask(Opmask::from_number(number)?)),
+    let number = register.index();
+    match register.bank() {
+        Some(Bank::Mask) if number > 0 => Opmask::from_number(number).map(Decoration::Mask),
         _ => None,
     }
 }

@@ -1,8 +1,8 @@
 // The instruction that a line asks for, as numbers.
 ghost use Rattle.std.specs.Prelude.{◌≡◌, ◌<◌};
-ghost use Rattle.listing.specs.Drafts.{count_of};
 ghost use Rattle.listing.specs.Making.{expected_of, kind_of, number_of, register_of, displaced, imm_after, displ_with, displ_after, raw_size, usual_size, size_of, by_place_of, slot_at, slots_of, imm_of, displ_of, memory_of, fields_of, instruction_of};
 
+use super::drafting::count;
 use super::line::{Asked, Given, Memory};
 use super::line_fault::{ListingFault, Wanted};
 use instruction::RawInstruction;
@@ -117,14 +117,17 @@ impl Memory {
     fn usual_size(&self, mode: u8) -> u8
         ensures { result ≡ usual_size mode self.now }
     {
-        match (self.base, self.index) {
-            (Some(base), _) if matches!(base.bank(), Some(Bank::Ip)) => 0,
-            (None, None) => match mode {
-                16 => 2,
-                32 => 3,
-                _ => 4,
-            },
-            _ => self.displ.is_some() as u8,
+        let bank = self.base.and_then(|base| base.bank());
+        if matches!(bank, Some(Bank::Ip)) {
+            return 0;
+        }
+        if self.base.is_some() || self.index.is_some() {
+            return self.displ.is_some() as u8;
+        }
+        match mode {
+            16 => 2,
+            32 => 3,
+            _ => 4,
         }
     }
 
@@ -133,16 +136,6 @@ impl Memory {
     {
         self.size.map_or(self.usual_size(mode), raw_size)
     }
-}
-
-// how many operands there are before the first place that has none
-pub(crate) fn count<T>(operands: &[Option<T>]) -> usize
-    ensures { result ≡ count_of operands.now }
-{
-    operands
-        .iter()
-        .take_while(|operand| operand.is_some())
-        .count()
 }
 
 // the operands of a record by place
