@@ -17,6 +17,7 @@ const ROUNDS: usize = 25;
 // A round of so many nanoseconds or more counts as 0.
 const TOO_LONG: u64 = 1_000_000_000_000;
 
+// What every item is encoded under.
 const PLAIN: RawSettings = RawSettings {
     prevent_vex2: 0,
     vex_wig: 0,
