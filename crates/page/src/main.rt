@@ -16,7 +16,7 @@ use row_text::RowText;
 use std::io;
 use std::io::{BufRead, BufReader, BufWriter, Write};
 
-// the built-in table in the row format, each record named by its number
+// the built-in table in the row format, each record named by its number, by which alone a catalogue gives it
 fn show_built_in<W: Write>(out: &mut W) -> io::Result<()> {
     let table = BuiltIn;
     for number in 0..table.count() {

@@ -21,6 +21,7 @@ struct RegisterText(u8);
 #[derive(Clone, Copy)]
 struct KindText(OpKind, Option<&'static str>);
 
+// the name of a whole bank, or of the first 16 registers of a vector bank
 fn range_name(range: RegisterRange) -> Option<&'static str> {
     match (range.lo, range.hi) {
         (1, 20) => Some("r8"),

@@ -13,7 +13,6 @@ use Rattle.record.specs.declared.op.Op.TheVariants.{ModRmRm, ModRmRmMemOnly, Vsi
 use Rattle.record.specs.declared.op.RegisterRange.{RegisterRange}
 use Rattle.record.specs.declared.sound.Record.{Record}
 use Rattle.gather.specs.declared.absolute.Offset.{Offset}
-use Rattle.gather.specs.declared.absolute.OffsetRefusal.{OffsetRefusal}
 use Rattle.gather.specs.declared.immediate.Branch.{Branch}
 use Rattle.gather.specs.declared.parts.Imm.{Imm}
 use Rattle.gather.specs.declared.parts.Imm.TheVariants as Imms
@@ -110,7 +109,7 @@ module _ (sp : Spread) (m : Mode) (r : Record) (i : Instruction) (at : Place) wh
       go false true z e = (z, memory_wrote must vsib p e)
       go false false z e = refused F.NeitherRegisterNorMemory e
 
-  offset_wrote : (p : Parts) (a : Result Offset OffsetRefusal) → absolute m kind i ≡ a → (offset_step p a).fault ≡ None → OffsetWrote m kind i p (offset_step p a).parts
+  offset_wrote : (p : Parts) (a : Result Offset (Refusal Offset)) → absolute m kind i ≡ a → (offset_step p a).fault ≡ None → OffsetWrote m kind i p (offset_step p a).parts
   offset_wrote p (Ok o) a e = record { offset = o; is = a; parts = refl }
   offset_wrote p (Err f) a e = refused f.fault e
 
