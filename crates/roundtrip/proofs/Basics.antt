@@ -7,7 +7,7 @@ use Rattle.gather.specs.declared.refusal.Refusal.{Refusal}
 pub no_err : {X E : Type 0} {A : Type 0} (e : E) (x : X) → ◌≡◌ {A = Result X E} (Err e) (Ok x) → A
 no_err e x h = let z : ◌≡◌ {A = ℕ} 0 1 = cc in absurd (omega arith)
 
-pub then_ok : {X Y : Type 0} (a : Result X Refusal) (f : X → Result Y Refusal) (y : Y) → Parts.then a f ≡ Ok y → (x : X) × (a ≡ Ok x) × (f x ≡ Ok y)
+pub then_ok : {X Y T : Type 0} (a : Result X (Refusal T)) (f : X → Result Y (Refusal T)) (y : Y) → Parts.then a f ≡ Ok y → (x : X) × (a ≡ Ok x) × (f x ≡ Ok y)
 then_ok (Ok x) f y e = (x, refl, e)
 then_ok (Err r) f y e = no_err r y e
 
