@@ -1,4 +1,4 @@
-use Rattle.std.specs.Prelude.{ℕ, Bool, cond, ◌&&◌, ◌||◌, List, Some, None, Option, ◌==◌, nat_le}
+use Rattle.std.specs.Prelude.{ℕ, Bool, true, false, cond, ◌&&◌, ◌||◌, List, Some, None, Option, ◌==◌, nat_le, option_map}
 use Rattle.machine.specs.Banks.{bank_of, bank_index}
 use Rattle.machine.specs.Opmasks.{opmask_named}
 use Rattle.machine.specs.declared.bank.Bank.{Bank}
@@ -29,11 +29,14 @@ mark_of b =
     cond (b == 58) (Some Colon) (
     cond (b == 47) (Some Slash) None)))))))
 
--- the mask that a place in a bank is: K1 to K7
-abbrev pub mask_at : Option Bank → ℕ → Option Decoration
-mask_at (Some bank.Mask) n = cond (n == 0) None (elim (opmask_named n) [ Some k ↦ Some (Mask k) | None ↦ None ])
-mask_at _ n = None
+-- whether a bank is that of masks
+abbrev pub mask_bank : Option Bank → Bool
+mask_bank (Some bank.Mask) = true
+mask_bank _ = false
 
 -- the mask K1 to K7 that a name is
 abbrev pub mask_of : List ℕ → Option Decoration
-mask_of w = elim (named_of w) [ Some x ↦ mask_at (bank_of x.number) (bank_index x.number) | None ↦ None ]
+mask_of w = elim (named_of w) [
+  | Some x ↦ cond (mask_bank (bank_of x.number)) (cond (bank_index x.number == 0) None (option_map Mask (opmask_named (bank_index x.number)))) None
+  | None ↦ None
+]

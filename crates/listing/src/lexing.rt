@@ -69,10 +69,12 @@ fn mask(word: &[u8]) -> Option<Decoration>
     ensures { result ≡ mask_of word.now }
 {
     let register = register(word)?;
-    let number = register.index();
-    match register.bank() {
-        Some(Bank::Mask) if number > 0 => Opmask::from_number(number).map(Decoration::Mask),
-        _ => None,
+    if !matches!(register.bank(), Some(Bank::Mask)) {
+        return None;
+    }
+    match register.index() {
+        0 => None,
+        number => Opmask::from_number(number).map(Decoration::Mask),
     }
 }
 
