@@ -1,5 +1,6 @@
 -- Opcode, ModRM, SIB, displacement and immediate, put behind the bytes so far.
 use Rattle.std.specs.Prelude.{ℕ, ◌+◌, ◌-◌, ◌*◌, ◌/◌, ◌%◌, Bool, false, cond, not, ◌||◌, List, [], ◌∷◌, ◌++◌, Some, None, Option, nat_le, nat_lt}
+use Rattle.std.specs.Int.{bytes_low_first}
 use Rattle.gather.specs.declared.parts.Displ.{Displ}
 use Rattle.gather.specs.declared.parts.Displ.TheVariants as D
 use Rattle.gather.specs.declared.parts.Imm.{Imm}
@@ -7,12 +8,9 @@ use Rattle.gather.specs.declared.parts.Imm.TheVariants as I
 use Rattle.gather.specs.declared.parts.Parts.{Parts}
 use Rattle.gather.specs.declared.parts.Sib.{Sib}
 
--- numbers, the lowest byte first
-abbrev pub le2 : ℕ → List ℕ
-le2 n = n % 256 ∷ (n / 256 % 256 ∷ [])
-
-abbrev pub le4 : ℕ → List ℕ
-le4 n = n % 256 ∷ (n / 256 % 256 ∷ (n / 65536 % 256 ∷ (n / 16777216 % 256 ∷ [])))
+-- the lowest k bytes of a number, the lowest of them first
+abbrev pub low_bytes : ℕ → ℕ → List ℕ
+low_bytes k n = bytes_low_first 0 k n
 
 -- the opcode with an embedded register, in one byte or two
 abbrev pub opcode_number : ℕ → ℕ → ℕ
@@ -64,11 +62,11 @@ rip_distance m target at imm = distance m target (at + (4 + imm))
 unfoldable pub displ_onto : List ℕ → ℕ → ℕ → Displ → List ℕ
 displ_onto l at imm D.Absent = l
 displ_onto l at imm (D.Size1 b) = l ++ (b ∷ [])
-displ_onto l at imm (D.Size2 n) = l ++ le2 n
-displ_onto l at imm (D.Size4 n) = l ++ le4 n
-displ_onto l at imm (D.Size8 n) = (l ++ le4 (n % 4294967296)) ++ le4 (n / 4294967296)
-displ_onto l at imm (D.RipRelSize4Target32 t) = l ++ le4 (rip_distance 4294967296 t at imm)
-displ_onto l at imm (D.RipRelSize4Target64 t) = l ++ le4 (rip_distance 18446744073709551616 t at imm % 4294967296)
+displ_onto l at imm (D.Size2 n) = l ++ low_bytes 2 n
+displ_onto l at imm (D.Size4 n) = l ++ low_bytes 4 n
+displ_onto l at imm (D.Size8 n) = l ++ low_bytes 8 n
+displ_onto l at imm (D.RipRelSize4Target32 t) = l ++ low_bytes 4 (rip_distance 4294967296 t at imm)
+displ_onto l at imm (D.RipRelSize4Target64 t) = l ++ low_bytes 4 (rip_distance 18446744073709551616 t at imm)
 
 -- a RIP target is out of reach
 abbrev pub displ_far : ℕ → ℕ → Displ → Bool
@@ -84,15 +82,15 @@ displ_far at imm (D.RipRelSize4Target64 t) = not (reaches 18446744073709551616 2
 unfoldable pub imm_onto : List ℕ → ℕ → Imm → List ℕ
 imm_onto l at I.Absent = l
 imm_onto l at (I.Size1 a) = l ++ (a ∷ [])
-imm_onto l at (I.Size1And1 a b) = (l ++ (a ∷ [])) ++ (b ∷ [])
-imm_onto l at (I.Size4 n) = l ++ le4 n
-imm_onto l at (I.Size8 n) = (l ++ le4 (n % 4294967296)) ++ le4 (n / 4294967296)
-imm_onto l at (I.RipRelSize1Target16 t) = l ++ (distance 65536 t (at + 1) % 256 ∷ [])
-imm_onto l at (I.RipRelSize1Target32 t) = l ++ (distance 4294967296 t (at + 1) % 256 ∷ [])
-imm_onto l at (I.RipRelSize1Target64 t) = l ++ (distance 18446744073709551616 t (at + 1) % 256 ∷ [])
-imm_onto l at (I.RipRelSize2Target16 t) = l ++ le2 (distance 65536 t (at + 2))
-imm_onto l at (I.RipRelSize4Target32 t) = l ++ le4 (distance 4294967296 t (at + 4))
-imm_onto l at (I.RipRelSize4Target64 t) = l ++ le4 (distance 18446744073709551616 t (at + 4) % 4294967296)
+imm_onto l at (I.Size1And1 a b) = l ++ (a ∷ (b ∷ []))
+imm_onto l at (I.Size4 n) = l ++ low_bytes 4 n
+imm_onto l at (I.Size8 n) = l ++ low_bytes 8 n
+imm_onto l at (I.RipRelSize1Target16 t) = l ++ low_bytes 1 (distance 65536 t (at + 1))
+imm_onto l at (I.RipRelSize1Target32 t) = l ++ low_bytes 1 (distance 4294967296 t (at + 1))
+imm_onto l at (I.RipRelSize1Target64 t) = l ++ low_bytes 1 (distance 18446744073709551616 t (at + 1))
+imm_onto l at (I.RipRelSize2Target16 t) = l ++ low_bytes 2 (distance 65536 t (at + 2))
+imm_onto l at (I.RipRelSize4Target32 t) = l ++ low_bytes 4 (distance 4294967296 t (at + 4))
+imm_onto l at (I.RipRelSize4Target64 t) = l ++ low_bytes 4 (distance 18446744073709551616 t (at + 4))
 
 -- a branch target is out of reach
 abbrev pub imm_far : ℕ → Imm → Bool

@@ -1,30 +1,44 @@
 // Distances from the address behind an instruction to a target, modulo two to the target's width.
-ghost use Rattle.std.specs.Prelude.{◌≡◌, ◌+◌, ◌≤◌};
-ghost use Rattle.encoder.specs.Fields.{distance, reaches};
+ghost use Rattle.std.specs.Prelude.{◌≡◌, ◌+◌, ◌<◌};
+ghost use Rattle.encoder.specs.Targets.{modulus, target_distance};
+ghost use Rattle.encoder.specs.Fields.{reaches};
 
-pub(crate) fn distance16(target: u16, at: u64, behind: u8) -> u16
-    ensures { result ≡ distance 65536 target (at + behind) }
-{
-    let next = ((at % 65536 + behind as u64) % 65536) as u16;
-    target.wrapping_sub(next)
+// Where a branch or a RIP operand leads, in as many bits as it is wide.
+#[derive(Clone, Copy)]
+pub(crate) enum Target {
+    Bits16(u16),
+    Bits32(u32),
+    Bits64(u64),
 }
 
-pub(crate) fn distance32(target: u32, at: u64, behind: u8) -> u32
-    ensures { result ≡ distance 4294967296 target (at + behind) }
-{
-    let next = ((at % 4294967296 + behind as u64) % 4294967296) as u32;
-    target.wrapping_sub(next)
-}
+impl Target {
+    // from the address `behind` bytes after `at`
+    pub(crate) fn distance(self, at: u64, behind: u8) -> u64
+        ensures { result ≡ target_distance self (at + behind) }
+    {
+        let next = at.wrapping_add(behind as u64);
+        match self {
+            Target::Bits16(target) => (target as u64).wrapping_sub(next) % 0x1_0000,
+            Target::Bits32(target) => (target as u64).wrapping_sub(next) % 0x1_0000_0000,
+            Target::Bits64(target) => target.wrapping_sub(next),
+        }
+    }
 
-pub(crate) fn distance64(target: u64, at: u64, behind: u8) -> u64
-    ensures { result ≡ distance 18446744073709551616 target (at + behind) }
-{
-    target.wrapping_sub(at.wrapping_add(behind as u64))
-}
+    fn greatest(self) -> u64
+        ensures { result + 1 ≡ modulus self }
+    {
+        match self {
+            Target::Bits16(_) => 0xFFFF,
+            Target::Bits32(_) => 0xFFFF_FFFF,
+            Target::Bits64(_) => u64::MAX,
+        }
+    }
 
-// a distance of 64 bits lies within 32 signed ones
-pub(crate) fn reaches32(distance: u64) -> bool
-    ensures { result ≡ reaches 18446744073709551616 2147483648 distance }
-{
-    distance < 2147483648 || distance >= 18446744071562067968
+    // whether a distance lies between minus `half` and `half` - 1
+    pub(crate) fn reaches(self, half: u64, distance: u64) -> bool
+        requires { half < modulus self }
+        ensures { result ≡ reaches (modulus self) half distance }
+    {
+        distance < half || distance > self.greatest() - half
+    }
 }

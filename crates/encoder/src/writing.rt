@@ -5,9 +5,7 @@ ghost use Rattle.gather.specs.Registers.{is_memory};
 ghost use Rattle.encoder.specs.Lines.{used, opt};
 ghost use Rattle.encoder.specs.Encode.{first_of, refuse_if, by_head, head_bytes, legacy_fault, by_head_fault, head_fault, address_behind, code_bytes, displ_bytes_onto, rip_far, imm_bytes_onto, branch_far, base_alone, vsib_bare, memory_at, uses_memory, rounds_evex, rounded_memory};
 
-use super::fields::{
-    displ_far, imm_far, imm_length, push_displ, push_imm, push_mod_rm, push_opcode,
-};
+use super::fields::imm_length;
 use super::head::{evex_fault, has_rex, push_evex, push_legacy, push_vex};
 use super::line::Line;
 use super::settings::Settings;
@@ -120,8 +118,8 @@ pub(crate) fn push_code(line: &mut Line, record: &Record, parts: &Parts)
     ensures count { line.new.count ≤ line.old.count + 4 }
 {
     let code = record.raw.op_code % 65536 + parts.low as u32 % 8;
-    push_opcode(line, record.raw.is_2byte_opcode, code);
-    push_mod_rm(line, record.has_mod_rm(), parts);
+    line.push_opcode(record.raw.is_2byte_opcode, code);
+    line.push_mod_rm(record.has_mod_rm(), parts);
 }
 
 // the displacement, and whether its RIP target is out of reach
@@ -133,8 +131,7 @@ pub(crate) fn push_displacement(line: &mut Line, address: u64, parts: &Parts) ->
 {
     let at = address_behind(address, line);
     let imm = imm_length(parts.imm);
-    push_displ(line, at, imm, parts.rm.displ);
-    displ_far(at, imm, parts.rm.displ)
+    line.push_displ(at, imm, parts.rm.displ)
 }
 
 // the immediate, and whether its branch target is out of reach
@@ -145,8 +142,7 @@ pub(crate) fn push_immediate(line: &mut Line, address: u64, parts: &Parts) -> bo
     ensures far { result ≡ branch_far address parts.now (used line.old) }
 {
     let at = address_behind(address, line);
-    push_imm(line, at, parts.imm);
-    imm_far(at, parts.imm)
+    line.push_imm(at, parts.imm)
 }
 
 fn base_alone(instruction: &Instruction) -> bool

@@ -33,29 +33,34 @@ impl Line {
             self.push(b);
         }
     }
+
+    pub(crate) fn push_all(&mut self, bytes: &[u8])
+        requires { self.old.count + length bytes.now ≤ 31 }
+        ensures bytes { used self.new ≡ used self.old ++ bytes.now }
+        ensures count { self.new.count ≡ self.old.count + length bytes.now }
+    {
+        let start = self.count as usize;
+        let end = start + bytes.len();
+        self.bytes[start..end].copy_from_slice(bytes);
+        self.count = end as u8;
+    }
 }
 
 impl Line {
     // how many bytes are used
+    #[tactic(auto, unfolding(crate::specs::Lines::used))]
     pub fn len(&self) -> u8
         ensures value { result ≡ length (used self.now) }
         ensures bound { result ≤ 31 }
     {
-        self.places()
-    }
-
-    fn places(&self) -> u8
-        ensures { result ≡ self.now.count }
-    {
-        let count = self.count;
-        count
+        self.count
     }
 
     // the bytes used
+    #[tactic(auto, unfolding(crate::specs::Lines::used))]
     pub fn bytes(&self) -> &[u8]
         ensures { result.now ≡ used self.now }
     {
-        let n = self.places() as usize;
-        &self.bytes[0..n]
+        &self.bytes[..self.count as usize]
     }
 }
