@@ -1,6 +1,7 @@
 -- Lengths: of the fields, and of the whole.
 use Rattle.std.proofs.Common.{◌≡◌, ℕ, ◌+◌, ◌≤◌, Bool, true, false, ltb, List, length, Some, None, Ok, Option, sym, refl, ap, ◌∙◌, arith, length-append}
 use Rattle.std.proofs.lemmas.Bool.Decides.{nat_tests}
+use Rattle.std.specs.Option.{option_or}
 use Rattle.fault.specs.declared.encode.EncodeFault.{EncodeFault}
 use Rattle.fault.specs.declared.encoding.EncodingFault.{EncodingFault}
 use Rattle.fault.specs.declared.encoding.EncodingFault.TheVariants as E
@@ -17,7 +18,7 @@ use Rattle.gather.specs.Steps.{Spread}
 use Rattle.record.specs.declared.sound.Record.{Record}
 use Rattle.encoder.specs.declared.settings.RawSettings.{RawSettings}
 use Rattle.encoder.specs.declared.settings.Settings.{Settings}
-use Rattle.encoder.specs.Encode.{first_of, refuse_if, head_bytes, code_bytes, displ_bytes_onto, imm_bytes_onto, line_bytes, line_fault, answer_of, steps_of, settings_known, settings_of, by_mode, encode_of}
+use Rattle.encoder.specs.Encode.{refuse_if, head_bytes, code_bytes, displ_bytes_onto, imm_bytes_onto, line_bytes, line_fault, answer_of, steps_of, settings_known, settings_of, by_mode, encode_of}
 use Rattle.encoder.specs.Fields.{imm_length, displ_onto, imm_onto}
 use Rattle.encoder.specs.Laws.{LengthWithoutAddress, AnswerIsLength}
 
@@ -76,10 +77,9 @@ answer_none : (f : Option EncodeFault) (k n : ℕ) → answer_of f k ≡ Ok n �
 answer_none (Some e) k n p = grind arith
 answer_none None k n p = let same : k ≡ n = cc in (refl, same)
 
-first_none : (f : Option EncodeFault) (g : Option EncodingFault) → first_of f g ≡ None → (f ≡ None) × (g ≡ None)
-first_none (Some e) g p = grind arith
-first_none None (Some e) p = grind arith
-first_none None None p = (refl, refl)
+or_none : (f g : Option EncodeFault) → option_or f g ≡ None → (f ≡ None) × (g ≡ None)
+or_none (Some e) g p = grind arith
+or_none None g p = (refl, p)
 
 not_refused : (b : Bool) (e : EncodingFault) → refuse_if b e ≡ None → b ≡ false
 not_refused true e p = grind arith
@@ -91,9 +91,9 @@ short n e = grind (arith, nat_tests)
 line_short : (s : Settings) (address : ℕ) (r : Record) (i : Instruction) (p : Parts) (f : Option EncodeFault) → line_fault s address r i p f ≡ None → length (line_bytes s address r i p) ≤ 15
 unfolding line_fault line_bytes
 line_short s address r i p f e =
-    let a = first_none _ _ e in
-    let b = first_none _ _ a.0 in
-    let c = first_none _ _ b.0 in
+    let a = or_none _ _ e in
+    let b = or_none _ _ a.0 in
+    let c = or_none _ _ b.0 in
     short _ (not_refused _ E.TooLong c.1)
 
 chosen_answer : (sp : Spread) (s : RawSettings) (address : ℕ) (r : Record) (i : Instruction) (n : ℕ) (k : Bool) (o : Option Mode) → (by_mode sp s address r i k o).answer ≡ Ok n → (n ≡ length (by_mode sp s address r i k o).bytes) × (n ≤ 15)

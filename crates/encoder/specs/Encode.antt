@@ -1,13 +1,16 @@
 -- An instruction's encoding: the bytes written, and the length or the first refusal.
 use Rattle.std.specs.Prelude.{ℕ, ◌+◌, ◌%◌, Bool, cond, not, ◌&&◌, ◌||◌, List, [], ◌++◌, length, Some, None, Ok, Err, Option, Result, ◌==◌, nat_le, nat_lt}
+use Rattle.std.specs.Bool.{then_some}
+use Rattle.std.specs.List.{list_any}
+use Rattle.std.specs.Option.{option_or, option_map}
 use Rattle.fault.specs.declared.encode.EncodeFault.{EncodeFault}
 use Rattle.fault.specs.declared.encode.EncodeFault.TheVariants.{Encoding}
 use Rattle.fault.specs.declared.encoding.EncodingFault.{EncodingFault}
 use Rattle.fault.specs.declared.encoding.EncodingFault.TheVariants as E
 use Rattle.machine.specs.declared.mode.Mode.{Mode}
 use Rattle.machine.specs.declared.place.Place.{Place}
-use Rattle.machine.specs.declared.place.Place.TheVariants.{Op0, Op1, Op2, Op3, Op4}
 use Rattle.machine.specs.Modes.{mode_named}
+use Rattle.machine.specs.Places.{places}
 use Rattle.instruction.specs.declared.made.Instruction.{Instruction}
 use Rattle.instruction.specs.Getters.{op_kind_at}
 use Rattle.gather.specs.declared.gathering.Gathering.{Gathering}
@@ -25,35 +28,31 @@ use Rattle.record.specs.Classes.{belongs_at, has_class}
 use Rattle.record.specs.Facts.{op_at, has_mod_rm}
 use Rattle.record.specs.Flags.{has_flag}
 use Rattle.record.specs.Rules.{is_evex}
+use Rattle.encoder.specs.declared.settings.EvexLig.{EvexLig}
 use Rattle.encoder.specs.declared.settings.RawSettings.{RawSettings}
 use Rattle.encoder.specs.declared.settings.Settings.{Settings}
 use Rattle.encoder.specs.Fields.{opcode_number, opcode_onto, mod_rm_onto, imm_length, displ_onto, displ_far, imm_onto, imm_far}
-use Rattle.encoder.specs.Heads.{has_rex, legacy_onto, vex_onto, evex_onto, evex_fault, rounds}
+use Rattle.encoder.specs.Heads.{prefixes_onto, repe_stands, has_rex, legacy_onto, vex_onto, evex_onto, evex_fault, rounds}
 use Rattle.encoder.specs.Lines.{opt}
 
--- the first refusal is kept
-abbrev pub first_of : Option EncodeFault → Option EncodingFault → Option EncodeFault
-first_of (Some e) f = Some e
-first_of None (Some f) = Some (Encoding f)
-first_of None None = None
-
-abbrev pub refuse_if : Bool → EncodingFault → Option EncodingFault
-refuse_if b f = cond b (Some f) None
+abbrev pub refuse_if : Bool → EncodingFault → Option EncodeFault
+refuse_if b f = then_some b (Encoding f)
 
 -- Head.
 
 abbrev pub by_head : Head → Settings → RawRecord → Parts → Instruction → List ℕ → List ℕ
-by_head (Legacy h) s r p i l = legacy_onto l h p i.prefixes
-by_head (Vex h) s r p i l = vex_onto l s h p i.prefixes
-by_head (Evex h) s r p i l = evex_onto l s r.enc_flags3 h p i.prefixes i.evex
+by_head (Legacy h) s r p i l = legacy_onto l h p
+by_head (Vex h) s r p i l = vex_onto l s h p
+by_head (Evex h) s r p i l = evex_onto l s r.enc_flags3 h p i.evex
 
--- FWAIT, then the head
+-- FWAIT and prefixes, then the head
 unfoldable pub head_bytes : Settings → RawRecord → Parts → Instruction → List ℕ
-head_bytes s r p i = by_head r.head s r p i ([] ++ opt (has_flag r.enc_flags3 Flags.Fwait) 0x9B)
+head_bytes s r p i =
+    by_head r.head s r p i (prefixes_onto ([] ++ opt (has_flag r.enc_flags3 Flags.Fwait) 0x9B) p.flags i.prefixes (repe_stands r.head))
 
 -- AH to BH beside a REX prefix
 abbrev pub legacy_fault : Parts → Option EncodingFault
-legacy_fault p = refuse_if (has_rex p && p.flags.high) E.HighByteWithRex
+legacy_fault p = then_some (has_rex p && p.flags.high) E.HighByteWithRex
 
 abbrev pub by_head_fault : Head → RawRecord → Parts → Instruction → Option EncodingFault
 by_head_fault (Legacy h) r p i = legacy_fault p
@@ -99,7 +98,7 @@ memory_at r i p = belongs_at Memory (op_at r.operands p) && is_memory (op_kind_a
 
 -- some operand is memory under ModRM
 unfoldable pub uses_memory : RawRecord → Instruction → Bool
-uses_memory r i = memory_at r i Op0 || (memory_at r i Op1 || (memory_at r i Op2 || (memory_at r i Op3 || memory_at r i Op4)))
+uses_memory r i = list_any (memory_at r i) places
 
 abbrev pub rounds_evex : RawRecord → Instruction → Bool
 rounds_evex r i = is_evex r.head && (i.evex.sae || rounds i.evex)
@@ -117,7 +116,7 @@ finished_bytes address r p l = imm_bytes_onto address p (displ_bytes_onto addres
 -- the refusals behind the head's, in their order
 abbrev pub finished_fault : ℕ → RawRecord → Instruction → Parts → List ℕ → Option EncodeFault → Option EncodeFault
 finished_fault address r i p l f =
-    first_of (first_of (first_of (first_of (first_of f
+    option_or (option_or (option_or (option_or (option_or f
     (refuse_if (rip_far address p (code_bytes r p l)) E.RipDistance))
     (refuse_if (branch_far address p (displ_bytes_onto address p (code_bytes r p l))) E.BranchDistance))
     (refuse_if (nat_lt 15 (length (finished_bytes address r p l))) E.TooLong))
@@ -129,7 +128,7 @@ line_bytes s address r i p = finished_bytes address r.raw p (head_bytes s r.raw 
 
 -- the refusals behind the operands', in their order
 unfoldable pub line_fault : Settings → ℕ → Record → Instruction → Parts → Option EncodeFault → Option EncodeFault
-line_fault s address r i p f = finished_fault address r.raw i p (head_bytes s r.raw p i) (first_of f (head_fault r.raw p i))
+line_fault s address r i p f = finished_fault address r.raw i p (head_bytes s r.raw p i) (option_or f (option_map Encoding (head_fault r.raw p i)))
 
 abbrev pub answer_of : Option EncodeFault → ℕ → Result ℕ EncodeFault
 answer_of (Some e) n = Err e
@@ -152,9 +151,16 @@ steps_of sp s m address r i = steps_from s address r i (gathered sp m r i)
 abbrev pub settings_known : RawSettings → Bool
 settings_known s = nat_le s.prevent_vex2 1 && (nat_le s.vex_wig 1 && (nat_le s.vex_lig 1 && (nat_le s.evex_wig 1 && nat_le s.evex_lig 3)))
 
+-- the low and the high bit
+abbrev pub lig_of : ℕ → EvexLig
+lig_of n = record { low = (n % 2 == 1); high = nat_le 2 n }
+
 abbrev pub settings_of : RawSettings → Settings
 settings_of s =
-    record { prevent_vex2 = (s.prevent_vex2 == 1); vex_wig = (s.vex_wig == 1); vex_lig = (s.vex_lig == 1); evex_wig = (s.evex_wig == 1); evex_lig = record { low = (s.evex_lig % 2 == 1); high = nat_le 2 s.evex_lig } }
+    record { prevent_vex2 = (s.prevent_vex2 == 1); vex_wig = (s.vex_wig == 1); vex_lig = (s.vex_lig == 1); evex_wig = (s.evex_wig == 1); evex_lig = lig_of s.evex_lig }
+
+abbrev pub settings_made : RawSettings → Result Settings EncodingFault
+settings_made s = cond (settings_known s) (Ok (settings_of s)) (Err E.Setting)
 
 abbrev pub refused_with : EncodingFault → EncodingOf
 refused_with f = record { bytes = []; answer = Err (Encoding f) }

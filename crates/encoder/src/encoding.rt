@@ -1,31 +1,29 @@
-ghost use Rattle.std.specs.Prelude.{◌≡◌, ◌≤◌, Bool, length};
-ghost use Rattle.fault.specs.declared.encoding.EncodingFault.TheVariants.{RipDistance, BranchDistance, TooLong, VsibWithoutIndex, MemoryWithRounding};
+ghost use Rattle.std.specs.Prelude.{◌≡◌, ◌≤◌, length};
+ghost use Rattle.std.specs.Option.{option_or, option_map};
+ghost use Rattle.fault.specs.declared.encode.EncodeFault.TheVariants.{Encoding};
 ghost use Rattle.encoder.specs.Lines.{used};
-ghost use Rattle.encoder.specs.Encode.{first_of, refuse_if, head_bytes, head_fault, code_bytes, displ_bytes_onto, rip_far, imm_bytes_onto, branch_far, vsib_bare, rounded_memory, answer_of, steps_of, settings_known, settings_of, encode_of, refused_with, finished_bytes, finished_fault};
+ghost use Rattle.encoder.specs.Encode.{refuse_if, head_bytes, head_fault, answer_of, encode_of, refused_with, finished_bytes, finished_fault};
 ghost use Rattle.encoder.specs.Laws.{LengthWithoutAddress, AnswerIsLength};
 
+use super::gathered::Gathered;
 use super::line::Line;
-use super::settings::{EvexLig, RawSettings, Settings};
-use super::writing::{
-    first_of, head_fault, head_line, push_code, push_displacement, push_immediate, refuse_if,
-    rounded_memory, vsib_bare,
-};
+use super::settings::{RawSettings, Settings};
 use fault::{EncodeFault, EncodingFault};
-use gather::{Gathering, Parts, gather};
+use gather::{Gathering, gather};
 use instruction::Instruction;
 use machine::{Code, Mode};
 use policy::Policy;
 use record::Record;
 
 // The head is written: no operand can be added any more.
-pub struct HeadWritten {
+struct HeadWritten<'a> {
     line: Line,
-    parts: Parts,
+    gathered: Gathered<'a>,
     fault: Option<EncodeFault>,
 }
 
 // All bytes are written.
-pub struct Finished {
+struct Finished {
     line: Line,
     fault: Option<EncodeFault>,
 }
@@ -37,123 +35,73 @@ pub struct Encoded {
     pub result: Result<u8, EncodeFault>,
 }
 
-fn write_head(
-    gathering: Gathering,
-    settings: Settings,
-    record: &Record,
-    instruction: &Instruction,
-) -> HeadWritten
-    ensures bytes { used result.line ≡ head_bytes settings «record».now.raw gathering.parts instruction.now }
-    ensures count { result.line.count ≤ 11 }
-    ensures parts { result.parts ≡ gathering.parts }
-    ensures fault { result.fault ≡ first_of gathering.fault (head_fault «record».now.raw gathering.parts instruction.now) }
+fn refuse_if(there: bool, fault: EncodingFault) -> Option<EncodeFault>
+    ensures { result ≡ refuse_if there fault }
 {
-    let Gathering { parts, fault } = gathering;
-    let line = head_line(settings, record, &parts, instruction);
-    let fault = first_of(fault, head_fault(record, &parts, instruction));
-    HeadWritten { line, parts, fault }
+    there.then_some(EncodeFault::Encoding(fault))
 }
 
-impl HeadWritten {
-    fn finish(self, address: u64, record: &Record, instruction: &Instruction) -> Finished
+impl<'a> Gathered<'a> {
+    fn write_head(self, fault: Option<EncodeFault>) -> HeadWritten<'a>
+        ensures bytes { used result.line ≡ head_bytes self.entry.settings self.entry.record.now.raw self.entry.parts self.entry.instruction.now }
+        ensures count { result.line.count ≤ 11 }
+        ensures gathered { result.gathered ≡ self.entry }
+        ensures fault { result.fault ≡ option_or fault (option_map Encoding (head_fault self.entry.record.now.raw self.entry.parts self.entry.instruction.now)) }
+    {
+        HeadWritten {
+            line: Line::head(&self),
+            fault: fault.or(self.head_fault().map(EncodeFault::Encoding)),
+            gathered: self,
+        }
+    }
+}
+
+impl HeadWritten<'_> {
+    fn finish(self, address: u64) -> Finished
         requires { self.line.count ≤ 11 }
-        ensures bytes { used result.line ≡ finished_bytes address «record».now.raw self.parts (used self.line) }
-        ensures fault { result.fault ≡ finished_fault address «record».now.raw instruction.now self.parts (used self.line) self.fault }
+        ensures bytes { used result.line ≡ finished_bytes address self.entry.gathered.record.now.raw self.entry.gathered.parts (used self.entry.line) }
+        ensures fault { result.fault ≡ finished_fault address self.entry.gathered.record.now.raw self.entry.gathered.instruction.now self.entry.gathered.parts (used self.entry.line) self.entry.fault }
     {
         let HeadWritten {
             mut line,
-            parts,
+            gathered,
             fault,
         } = self;
-        push_code(&mut line, record, &parts);
-        let rip = refuse_if(
-            push_displacement(&mut line, address, &parts),
-            EncodingFault::RipDistance,
-        );
-        let branch = refuse_if(
-            push_immediate(&mut line, address, &parts),
-            EncodingFault::BranchDistance,
-        );
-        let long = refuse_if(line.len() > 15, EncodingFault::TooLong);
-        let bare = refuse_if(
-            vsib_bare(record, instruction),
-            EncodingFault::VsibWithoutIndex,
-        );
-        let rounded = refuse_if(
-            rounded_memory(record, instruction),
-            EncodingFault::MemoryWithRounding,
-        );
-        let fault = first_of(first_of(first_of(fault, rip), branch), long);
-        Finished {
+        line.push_code(&gathered);
+        let rip = line.push_displacement(address, &gathered.parts);
+        let branch = line.push_immediate(address, &gathered.parts);
+        let fault = fault
+            .or(refuse_if(rip, EncodingFault::RipDistance))
+            .or(refuse_if(branch, EncodingFault::BranchDistance))
+            .or(refuse_if(line.len() > 15, EncodingFault::TooLong))
+            .or(refuse_if(gathered.vsib_bare(), EncodingFault::VsibWithoutIndex))
+            .or(refuse_if(gathered.rounded_memory(), EncodingFault::MemoryWithRounding));
+        Finished { line, fault }
+    }
+}
+
+impl Finished {
+    fn encoded(self) -> Encoded
+        ensures line { result.line ≡ self.line }
+        ensures answer { result.result ≡ answer_of self.fault (length (used self.line)) }
+    {
+        let Finished { line, fault } = self;
+        Encoded {
             line,
-            fault: first_of(first_of(fault, bare), rounded),
+            result: fault.map_or(Ok(line.len()), Err),
         }
     }
 }
 
-fn answer_of(fault: Option<EncodeFault>, length: u8) -> Result<u8, EncodeFault>
-    ensures { result ≡ answer_of fault length }
-{
-    match fault {
-        Some(fault) => Err(fault),
-        None => Ok(length),
-    }
-}
-
-fn steps<P: Policy>(
-    policy: &P,
-    settings: Settings,
-    mode: Mode,
-    address: u64,
-    record: &Record,
-    instruction: &Instruction,
-) -> Encoded
-    ensures bytes { used result.line ≡ (steps_of (P.spread policy.now) settings mode address «record».now instruction.now).bytes }
-    ensures answer { result.result ≡ (steps_of (P.spread policy.now) settings mode address «record».now instruction.now).answer }
-{
-    let gathering = gather(policy, mode, record, instruction);
-    let written = write_head(gathering, settings, record, instruction);
-    let Finished { line, fault } = written.finish(address, record, instruction);
-    Encoded {
-        line,
-        result: answer_of(fault, line.len()),
-    }
-}
-
-impl RawSettings {
-    fn known(self) -> bool
-        ensures { result ≡ settings_known self }
+impl Encoded {
+    fn refused(fault: EncodingFault) -> Encoded
+        ensures bytes { used result.line ≡ (refused_with fault).bytes }
+        ensures answer { result.result ≡ (refused_with fault).answer }
     {
-        self.prevent_vex2 <= 1
-            && self.vex_wig <= 1
-            && self.vex_lig <= 1
-            && self.evex_wig <= 1
-            && self.evex_lig <= 3
-    }
-
-    fn settings(self) -> Settings
-        ensures { result ≡ settings_of self }
-    {
-        Settings {
-            prevent_vex2: self.prevent_vex2 == 1,
-            vex_wig: self.vex_wig == 1,
-            vex_lig: self.vex_lig == 1,
-            evex_wig: self.evex_wig == 1,
-            evex_lig: EvexLig {
-                low: self.evex_lig % 2 == 1,
-                high: self.evex_lig >= 2,
-            },
+        Encoded {
+            line: Line::empty(),
+            result: Err(EncodeFault::Encoding(fault)),
         }
-    }
-}
-
-fn refused(fault: EncodingFault) -> Encoded
-    ensures bytes { used result.line ≡ (refused_with fault).bytes }
-    ensures answer { result.result ≡ (refused_with fault).answer }
-{
-    Encoded {
-        line: Line::empty(),
-        result: Err(EncodeFault::Encoding(fault)),
     }
 }
 
@@ -171,33 +119,18 @@ pub fn encode<P: Policy>(
     ensures no_address { LengthWithoutAddress }
     ensures lengths { AnswerIsLength }
 {
-    checked(policy, settings, mode, address, record, instruction)
-}
-
-// mode and settings first, then the steps
-fn checked<P: Policy>(
-    policy: &P,
-    settings: RawSettings,
-    mode: u8,
-    address: u64,
-    record: &Record,
-    instruction: &Instruction,
-) -> Encoded
-    ensures bytes { used result.line ≡ (encode_of (P.spread policy.now) settings mode address «record».now instruction.now).bytes }
-    ensures answer { result.result ≡ (encode_of (P.spread policy.now) settings mode address «record».now instruction.now).answer }
-{
     let Some(mode) = Mode::from_number(mode) else {
-        return refused(EncodingFault::Mode);
+        return Encoded::refused(EncodingFault::Mode);
     };
-    if !settings.known() {
-        return refused(EncodingFault::Setting);
-    }
-    steps(
-        policy,
-        settings.settings(),
-        mode,
-        address,
+    let Ok(settings) = Settings::try_from(settings) else {
+        return Encoded::refused(EncodingFault::Setting);
+    };
+    let Gathering { parts, fault } = gather(policy, mode, record, instruction);
+    let gathered = Gathered {
+        settings,
         record,
         instruction,
-    )
+        parts,
+    };
+    gathered.write_head(fault).finish(address).encoded()
 }

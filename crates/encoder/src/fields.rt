@@ -1,10 +1,12 @@
 // Opcode, ModRM, SIB, displacement and immediate.
 ghost use Rattle.std.specs.Prelude.{◌≡◌, ◌+◌, ◌-◌, ◌*◌, ◌^◌, ◌≤◌, ◌++◌, not};
 ghost use Rattle.encoder.specs.Lines.{used};
-ghost use Rattle.encoder.specs.Fields.{low_bytes, reaches, opcode_number, opcode_onto, mod_rm_byte, sib_byte, sib_onto, mod_rm_onto, imm_length, displ_onto, displ_far, imm_onto, imm_far};
+ghost use Rattle.encoder.specs.Encode.{address_behind, code_bytes, displ_bytes_onto, rip_far, imm_bytes_onto, branch_far};
+ghost use Rattle.encoder.specs.Fields.{low_bytes, reaches, opcode_onto, mod_rm_byte, sib_byte, sib_onto, mod_rm_onto, imm_length};
 ghost use Rattle.encoder.specs.Targets.{modulus, target_distance};
 
 use super::distance::Target;
+use super::gathered::Gathered;
 use super::line::Line;
 use gather::{Displ, Imm, Parts, Sib};
 
@@ -31,9 +33,17 @@ pub(crate) fn imm_length(imm: Imm) -> u8
 }
 
 impl Line {
+    // the address behind the bytes so far
+    #[tactic(auto, unfolding(crate::specs::Encode::address_behind))]
+    fn behind(&self, address: u64) -> u64
+        ensures { result ≡ address_behind address (used self.now) }
+    {
+        address.wrapping_add(self.len() as u64)
+    }
+
     // the opcode in one byte or two
     #[tactic(auto, unfolding(crate::specs::Fields::opcode_onto))]
-    pub(crate) fn push_opcode(&mut self, two: bool, code: u32)
+    fn push_opcode(&mut self, two: bool, code: u32)
         requires { self.old.count ≤ 11 }
         ensures bytes { used self.new ≡ opcode_onto (used self.old) two code }
         ensures count { self.new.count ≤ self.old.count + 2 }
@@ -52,9 +62,8 @@ impl Line {
         }
     }
 
-    // ModRM and SIB
     #[tactic(auto, unfolding(crate::specs::Fields::mod_rm_onto))]
-    pub(crate) fn push_mod_rm(&mut self, there: bool, parts: &Parts)
+    fn push_mod_rm(&mut self, there: bool, parts: &Parts)
         requires { self.old.count ≤ 13 }
         ensures bytes { used self.new ≡ mod_rm_onto (used self.old) there parts.now }
         ensures count { self.new.count ≤ self.old.count + 2 }
@@ -63,6 +72,19 @@ impl Line {
             self.push(mod_rm_byte(parts));
             self.push_sib(parts.rm.sib);
         }
+    }
+
+    // opcode, ModRM and SIB
+    #[tactic(auto, unfolding(crate::specs::Encode::code_bytes))]
+    pub(crate) fn push_code(&mut self, gathered: &Gathered)
+        requires { self.old.count ≤ 11 }
+        ensures bytes { used self.new ≡ code_bytes gathered.now.record.now.raw gathered.now.parts (used self.old) }
+        ensures count { self.new.count ≤ self.old.count + 4 }
+    {
+        let raw = &gathered.record.raw;
+        let code = raw.op_code % 65536 + gathered.parts.low as u32 % 8;
+        self.push_opcode(raw.is_2byte_opcode, code);
+        self.push_mod_rm(gathered.record.has_mod_rm(), &gathered.parts);
     }
 
     // the low `size` bytes of the distance to a target from `behind` bytes after `at`, and whether it is out of reach
@@ -77,15 +99,17 @@ impl Line {
         !target.reaches(1 << (8 * size - 1), distance)
     }
 
-    // the displacement, and whether its RIP target is out of reach; `at` is the address of its first byte
-    #[tactic(auto, unfolding(crate::specs::Fields::displ_onto))]
-    pub(crate) fn push_displ(&mut self, at: u64, imm: u8, displ: Displ) -> bool
-        requires { (self.old.count ≤ 15) × (imm ≤ 8) }
-        ensures bytes { used self.new ≡ displ_onto (used self.old) at imm displ }
+    // the displacement, and whether its RIP target is out of reach
+    #[tactic(auto, unfolding(crate::specs::Encode::displ_bytes_onto, crate::specs::Encode::rip_far, crate::specs::Fields::displ_onto))]
+    pub(crate) fn push_displacement(&mut self, address: u64, parts: &Parts) -> bool
+        requires { self.old.count ≤ 15 }
+        ensures bytes { used self.new ≡ displ_bytes_onto address parts.now (used self.old) }
         ensures count { self.new.count ≤ self.old.count + 8 }
-        ensures far { result ≡ displ_far at imm displ }
+        ensures far { result ≡ rip_far address parts.now (used self.old) }
     {
-        match displ {
+        let at = self.behind(address);
+        let imm = imm_length(parts.imm);
+        match parts.rm.displ {
             Displ::Absent => {}
             Displ::Size1(b) => self.push(b),
             Displ::Size2(n) => self.push_all(&n.to_le_bytes()),
@@ -101,15 +125,16 @@ impl Line {
         false
     }
 
-    // the immediate, and whether its branch target is out of reach; `at` is the address of its first byte
-    #[tactic(auto, unfolding(crate::specs::Fields::imm_onto))]
-    pub(crate) fn push_imm(&mut self, at: u64, imm: Imm) -> bool
+    // the immediate, and whether its branch target is out of reach
+    #[tactic(auto, unfolding(crate::specs::Encode::imm_bytes_onto, crate::specs::Encode::branch_far, crate::specs::Fields::imm_onto))]
+    pub(crate) fn push_immediate(&mut self, address: u64, parts: &Parts) -> bool
         requires { self.old.count ≤ 23 }
-        ensures bytes { used self.new ≡ imm_onto (used self.old) at imm }
+        ensures bytes { used self.new ≡ imm_bytes_onto address parts.now (used self.old) }
         ensures count { self.new.count ≤ self.old.count + 8 }
-        ensures far { result ≡ imm_far at imm }
+        ensures far { result ≡ branch_far address parts.now (used self.old) }
     {
-        match imm {
+        let at = self.behind(address);
+        match parts.imm {
             Imm::Absent => {}
             Imm::Size1(a) => self.push(a),
             Imm::Size1And1(a, b) => self.push_all(&[a, b]),

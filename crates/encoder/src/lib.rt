@@ -4,10 +4,10 @@
 mod distance;
 mod encoding;
 mod fields;
+mod gathered;
 mod head;
 mod line;
 mod settings;
-mod writing;
 
 pub use encoding::{Encoded, encode};
 pub use line::Line;

@@ -1,8 +1,10 @@
 ghost use Rattle.std.specs.Prelude.{◌≡◌, ℕ, ◌-◌, ◌≤◌, length, drop, replicate};
 
+mod read;
 mod work;
 
-// The bytes of one instruction: 31 places, of which the first `count` are used and the others are zero.
+// The bytes of one instruction: 31 places, of which the first `count` are used and the others are zero. An array by value,
+// since the encoder uses no heap; no instruction comes to more, as the functions that push say by their room.
 #[derive(Clone, Copy)]
 pub struct Line {
     bytes: [u8; 31],

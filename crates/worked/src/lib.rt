@@ -9,11 +9,5 @@ pub fn worked_examples() -> u8
     ensures count { result ≡ 14 }
     ensures stand { ExamplesComeOut }
 {
-    fourteen()
-}
-
-fn fourteen() -> u8
-    ensures { result ≡ 14 }
-{
     14
 }

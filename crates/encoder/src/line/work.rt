@@ -1,4 +1,4 @@
-ghost use Rattle.std.specs.Prelude.{◌≡◌, ℕ, ◌+◌, ◌<◌, ◌≤◌, Bool, [], ◌∷◌, ◌++◌, length};
+ghost use Rattle.std.specs.Prelude.{◌≡◌, ◌+◌, ◌<◌, ◌≤◌, [], ◌∷◌, ◌++◌, length};
 ghost use Rattle.encoder.specs.Lines.{used, opt};
 
 use super::Line;
@@ -43,24 +43,5 @@ impl Line {
         let end = start + bytes.len();
         self.bytes[start..end].copy_from_slice(bytes);
         self.count = end as u8;
-    }
-}
-
-impl Line {
-    // how many bytes are used
-    #[tactic(auto, unfolding(crate::specs::Lines::used))]
-    pub fn len(&self) -> u8
-        ensures value { result ≡ length (used self.now) }
-        ensures bound { result ≤ 31 }
-    {
-        self.count
-    }
-
-    // the bytes used
-    #[tactic(auto, unfolding(crate::specs::Lines::used))]
-    pub fn bytes(&self) -> &[u8]
-        ensures { result.now ≡ used self.now }
-    {
-        &self.bytes[..self.count as usize]
     }
 }
