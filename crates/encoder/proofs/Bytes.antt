@@ -1,5 +1,5 @@
 -- The low bytes of a number.
-use Rattle.std.proofs.Common.{◌≡◌, ℕ, zero, suc, ◌+◌, ◌-◌, ◌*◌, ◌%◌, ◌^◌, ◌<◌, ◌≤◌, ◌∷◌, take, refl, ap, arith}
+use Rattle.std.proofs.Common.{◌≡◌, ℕ, zero, suc, ◌-◌, ◌*◌, ◌%◌, ◌^◌, ◌<◌, ◌≤◌, ◌∷◌, take, refl, ap, arith}
 use Rattle.std.specs.Int.{byte_at, bytes_low_first}
 
 pub take_low : (i k m n : ℕ) → m ≤ k → take m (bytes_low_first i k n) ≡ bytes_low_first i m n

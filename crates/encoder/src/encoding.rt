@@ -20,6 +20,7 @@ struct HeadWritten<'a> {
     line: Line,
     gathered: Gathered<'a>,
     fault: Option<EncodeFault>,
+    ghost room: { line.count ≤ 11 },
 }
 
 // All bytes are written.
@@ -44,7 +45,6 @@ fn refuse_if(there: bool, fault: EncodingFault) -> Option<EncodeFault>
 impl<'a> Gathered<'a> {
     fn write_head(self, fault: Option<EncodeFault>) -> HeadWritten<'a>
         ensures bytes { used result.line ≡ head_bytes self.entry.settings self.entry.record.now.raw self.entry.parts self.entry.instruction.now }
-        ensures count { result.line.count ≤ 11 }
         ensures gathered { result.gathered ≡ self.entry }
         ensures fault { result.fault ≡ option_or fault (option_map Encoding (head_fault self.entry.record.now.raw self.entry.parts self.entry.instruction.now)) }
     {
@@ -58,7 +58,6 @@ impl<'a> Gathered<'a> {
 
 impl HeadWritten<'_> {
     fn finish(self, address: u64) -> Finished
-        requires { self.line.count ≤ 11 }
         ensures bytes { used result.line ≡ finished_bytes address self.entry.gathered.record.now.raw self.entry.gathered.parts (used self.entry.line) }
         ensures fault { result.fault ≡ finished_fault address self.entry.gathered.record.now.raw self.entry.gathered.instruction.now self.entry.gathered.parts (used self.entry.line) self.entry.fault }
     {
@@ -122,8 +121,9 @@ pub fn encode<P: Policy>(
     let Some(mode) = Mode::from_number(mode) else {
         return Encoded::refused(EncodingFault::Mode);
     };
-    let Ok(settings) = Settings::try_from(settings) else {
-        return Encoded::refused(EncodingFault::Setting);
+    let settings = match Settings::try_from(settings) {
+        Ok(settings) => settings,
+        Err(fault) => return Encoded::refused(fault),
     };
     let Gathering { parts, fault } = gather(policy, mode, record, instruction);
     let gathered = Gathered {

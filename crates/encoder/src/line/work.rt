@@ -4,6 +4,7 @@ ghost use Rattle.encoder.specs.Lines.{used, opt};
 use super::Line;
 
 impl Line {
+    #[tactic(auto, unfolding(crate::specs::Lines::used))]
     pub(crate) fn empty() -> Line
         ensures bytes { used result ≡ [] }
         ensures count { result.count ≡ 0 }
@@ -14,6 +15,7 @@ impl Line {
         }
     }
 
+    #[tactic(auto, using(std::proofs::lemmas::List::take_more_set), unfolding(crate::specs::Lines::used))]
     pub(crate) fn push(&mut self, b: u8)
         requires { self.old.count < 31 }
         ensures bytes { used self.new ≡ used self.old ++ (b ∷ []) }

@@ -1,5 +1,4 @@
 use Rattle.std.proofs.Common.{◌≡◌, ap, sym, ◌∙◌, rules}
-use Rattle.fault.specs.declared.encoding.EncodingFault.TheVariants.{Setting}
 use Rattle.encoder.specs.Encode.{steps_of, line_bytes, line_fault, refused_with, encode_of}
 use Rattle.encoder.proofs.Chosen.{setting_refused, both_taken}
 use Rattle.encoder.proofs.Lengths.{length_without_address, answer_is_length}
@@ -9,15 +8,15 @@ pub returns-in_default : goal.returns-in_default
 unfolding encode_of
 returns-in_default g c = record { bytes = search rules; answer = search rules; no_address = length_without_address; lengths = answer_is_length }
 
-pub returns-in_default-try_from : goal.returns-in_default-try_from
+pub returns-in-Err : goal.returns-in-Err
 unfolding encode_of
-returns-in_default-try_from g c =
+returns-in-Err g c =
     let a = c.args in
-    let e : encode_of (g.P.Policy.spread a.policy.now) a.settings a.mode a.address a.record.now a.instruction.now ≡ refused_with Setting =
-    setting_refused _ a.settings _ _ _ _ _ _ (sym c.try_from.ensures ∙ c.in_default-try_from.is) (sym c.from_number.ensures ∙ c.in-Some.is) in
+    let e : encode_of (g.P.Policy.spread a.policy.now) a.settings a.mode a.address a.record.now a.instruction.now ≡ refused_with c.in-Err.fault =
+    setting_refused _ a.settings _ _ _ _ _ _ (sym c.try_from.ensures ∙ c.in-Err.is) (sym c.from_number.ensures ∙ c.in-Some.is) in
     record {
-      bytes = c.refused-in_default-try_from.ensures.bytes ∙ ap (λ x. x.bytes) (sym e);
-      answer = c.refused-in_default-try_from.ensures.answer ∙ ap (λ x. x.answer) (sym e);
+      bytes = c.refused-in-Err.ensures.bytes ∙ ap (λ x. x.bytes) (sym e);
+      answer = c.refused-in-Err.ensures.answer ∙ ap (λ x. x.answer) (sym e);
       no_address = length_without_address;
       lengths = answer_is_length;
     }

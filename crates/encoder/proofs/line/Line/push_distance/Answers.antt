@@ -1,7 +1,7 @@
-use Rattle.std.proofs.Common.{◌≡◌, ◌+◌, ◌≤◌, ◌++◌, take, ap, ◌∙◌, arith, rules}
+use Rattle.std.proofs.Common.{◌≡◌, ◌≤◌, ◌++◌, take, ap, ◌∙◌, arith, rules}
 use Rattle.encoder.specs.Fields.{low_bytes}
 use Rattle.encoder.specs.Lines.{used}
-use Rattle.encoder.specs.Targets.{modulus, target_distance}
+use Rattle.encoder.specs.Targets.{modulus}
 use Rattle.encoder.proofs.Bytes.{take_low, half_below}
 use Rattle.encoder.proofs.line.Line.push_distance.Goals as goal
 
