@@ -140,24 +140,12 @@ impl Line {
             Imm::Size1And1(a, b) => self.push_all(&[a, b]),
             Imm::Size4(n) => self.push_all(&n.to_le_bytes()),
             Imm::Size8(n) => self.push_all(&n.to_le_bytes()),
-            Imm::RipRelSize1Target16(t) => {
-                return self.push_distance(Target::Bits16(t), at, 1, 1);
-            }
-            Imm::RipRelSize1Target32(t) => {
-                return self.push_distance(Target::Bits32(t), at, 1, 1);
-            }
-            Imm::RipRelSize1Target64(t) => {
-                return self.push_distance(Target::Bits64(t), at, 1, 1);
-            }
-            Imm::RipRelSize2Target16(t) => {
-                return self.push_distance(Target::Bits16(t), at, 2, 2);
-            }
-            Imm::RipRelSize4Target32(t) => {
-                return self.push_distance(Target::Bits32(t), at, 4, 4);
-            }
-            Imm::RipRelSize4Target64(t) => {
-                return self.push_distance(Target::Bits64(t), at, 4, 4);
-            }
+            Imm::RipRelSize1Target16(t) => return self.push_distance(Target::Bits16(t), at, 1, 1),
+            Imm::RipRelSize1Target32(t) => return self.push_distance(Target::Bits32(t), at, 1, 1),
+            Imm::RipRelSize1Target64(t) => return self.push_distance(Target::Bits64(t), at, 1, 1),
+            Imm::RipRelSize2Target16(t) => return self.push_distance(Target::Bits16(t), at, 2, 2),
+            Imm::RipRelSize4Target32(t) => return self.push_distance(Target::Bits32(t), at, 4, 4),
+            Imm::RipRelSize4Target64(t) => return self.push_distance(Target::Bits64(t), at, 4, 4),
         }
         false
     }
