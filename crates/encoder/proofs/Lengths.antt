@@ -1,5 +1,5 @@
 -- Lengths: of the fields, and of the whole.
-use Rattle.std.proofs.Common.{◌≡◌, ℕ, ◌+◌, ◌≤◌, Bool, true, false, ltb, List, length, Some, None, Ok, Option, sym, refl, ap, ◌∙◌, arith, length-append}
+use Rattle.std.proofs.Common.{◌≡◌, ℕ, ◌+◌, ◌≤◌, Bool, true, false, ltb, List, length, Some, None, Ok, Err, Option, Result, sym, refl, ap, ◌∙◌, arith, length-append}
 use Rattle.std.proofs.lemmas.Bool.Decides.{nat_tests}
 use Rattle.std.specs.Option.{option_or}
 use Rattle.fault.specs.declared.encode.EncodeFault.{EncodeFault}
@@ -16,9 +16,8 @@ use Rattle.gather.specs.declared.parts.Parts.{Parts}
 use Rattle.gather.specs.Gathered.{gathered}
 use Rattle.gather.specs.Steps.{Spread}
 use Rattle.record.specs.declared.sound.Record.{Record}
-use Rattle.instruction.specs.declared.settings.RawSettings.{RawSettings}
 use Rattle.encoder.specs.declared.settings.Settings.{Settings}
-use Rattle.encoder.specs.Encode.{refuse_if, head_bytes, code_bytes, displ_bytes_onto, imm_bytes_onto, line_bytes, line_fault, answer_of, steps_of, settings_known, settings_of, by_mode, encode_of}
+use Rattle.encoder.specs.Encode.{refuse_if, head_bytes, code_bytes, displ_bytes_onto, imm_bytes_onto, line_bytes, line_fault, answer_of, steps_of, settings_made, by_mode, encode_of}
 use Rattle.encoder.specs.Fields.{imm_length, displ_onto, imm_onto}
 use Rattle.encoder.specs.Laws.{LengthWithoutAddress, AnswerIsLength}
 
@@ -64,14 +63,14 @@ steps_length : (sp : Spread) (s : Settings) (m : Mode) (r : Record) (i : Instruc
 unfolding steps_of
 steps_length sp s m r i here there = length_line s here r i (gathered sp m r i).parts ∙ sym (length_line s there r i (gathered sp m r i).parts)
 
-chosen_length : (sp : Spread) (s : RawSettings) (r : Record) (i : Instruction) (here there : ℕ) (k : Bool) (o : Option Mode) → length (by_mode sp s here r i k o).bytes ≡ length (by_mode sp s there r i k o).bytes
-chosen_length sp s r i here there true (Some m) = steps_length sp (settings_of s) m r i here there
-chosen_length sp s r i here there false (Some m) = refl
-chosen_length sp s r i here there k None = refl
+chosen_length : (sp : Spread) (r : Record) (i : Instruction) (here there : ℕ) (s : Result Settings EncodingFault) (o : Option Mode) → length (by_mode sp here r i s o).bytes ≡ length (by_mode sp there r i s o).bytes
+chosen_length sp r i here there (Ok s) (Some m) = steps_length sp s m r i here there
+chosen_length sp r i here there (Err f) (Some m) = refl
+chosen_length sp r i here there s None = refl
 
 pub length_without_address : LengthWithoutAddress
 unfolding encode_of
-length_without_address sp s mode r i here there = chosen_length sp s r i here there (settings_known s) (mode_named mode)
+length_without_address sp s mode r i here there = chosen_length sp r i here there (settings_made s) (mode_named mode)
 
 answer_none : (f : Option EncodeFault) (k n : ℕ) → answer_of f k ≡ Ok n → (f ≡ None) × (k ≡ n)
 answer_none (Some e) k n p = grind arith
@@ -96,16 +95,16 @@ line_short s address r i p f e =
     let c = or_none _ _ b.0 in
     short _ (not_refused _ E.TooLong c.1)
 
-chosen_answer : (sp : Spread) (s : RawSettings) (address : ℕ) (r : Record) (i : Instruction) (n : ℕ) (k : Bool) (o : Option Mode) → (by_mode sp s address r i k o).answer ≡ Ok n → (n ≡ length (by_mode sp s address r i k o).bytes) × (n ≤ 15)
+chosen_answer : (sp : Spread) (address : ℕ) (r : Record) (i : Instruction) (n : ℕ) (s : Result Settings EncodingFault) (o : Option Mode) → (by_mode sp address r i s o).answer ≡ Ok n → (n ≡ length (by_mode sp address r i s o).bytes) × (n ≤ 15)
 unfolding steps_of
-chosen_answer sp s address r i n true (Some m) e =
+chosen_answer sp address r i n (Ok s) (Some m) e =
     let g = gathered sp m r i in
-    let a = answer_none (line_fault (settings_of s) address r i g.parts g.fault) _ n e in
-    let b = line_short (settings_of s) address r i g.parts g.fault a.0 in
+    let a = answer_none (line_fault s address r i g.parts g.fault) _ n e in
+    let b = line_short s address r i g.parts g.fault a.0 in
     (sym a.1, omega (arith, a.1, b))
-chosen_answer sp s address r i n false (Some m) e = grind arith
-chosen_answer sp s address r i n k None e = grind arith
+chosen_answer sp address r i n (Err f) (Some m) e = grind arith
+chosen_answer sp address r i n s None e = grind arith
 
 pub answer_is_length : AnswerIsLength
 unfolding encode_of
-answer_is_length sp s mode address r i n e = chosen_answer sp s address r i n (settings_known s) (mode_named mode) e
+answer_is_length sp s mode address r i n e = chosen_answer sp address r i n (settings_made s) (mode_named mode) e

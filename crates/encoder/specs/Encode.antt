@@ -166,9 +166,10 @@ abbrev pub refused_with : EncodingFault → EncodingOf
 refused_with f = record { bytes = []; answer = Err (Encoding f) }
 
 -- the mode first, then the settings, then the steps
-abbrev pub by_mode : Spread → RawSettings → ℕ → Record → Instruction → Bool → Option Mode → EncodingOf
-by_mode sp s address r i known (Some m) = cond known (steps_of sp (settings_of s) m address r i) (refused_with E.Setting)
-by_mode sp s address r i known None = refused_with E.Mode
+abbrev pub by_mode : Spread → ℕ → Record → Instruction → Result Settings EncodingFault → Option Mode → EncodingOf
+by_mode sp address r i (Ok s) (Some m) = steps_of sp s m address r i
+by_mode sp address r i (Err f) (Some m) = refused_with f
+by_mode sp address r i s None = refused_with E.Mode
 
 unfoldable pub encode_of : Spread → RawSettings → ℕ → ℕ → Record → Instruction → EncodingOf
-encode_of sp s mode address r i = by_mode sp s address r i (settings_known s) (mode_named mode)
+encode_of sp s mode address r i = by_mode sp address r i (settings_made s) (mode_named mode)

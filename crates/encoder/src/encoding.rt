@@ -105,6 +105,7 @@ impl Encoded {
 }
 
 // the bytes of an instruction under a record, and their count or the first refusal
+#[tactic(auto, unfolding(crate::specs::Encode::encode_of, crate::specs::Encode::steps_of, crate::specs::Encode::line_bytes, crate::specs::Encode::line_fault))]
 pub fn encode<P: Policy>(
     policy: &P,
     settings: RawSettings,

@@ -62,6 +62,7 @@ impl Gathered<'_> {
             || ((head.table != 1 || parts.flags.w) || (parts.rm.x % 2 == 1 || parts.rm.b % 2 == 1))
     }
 
+    // R inverted, at the top of a byte
     fn inverted_r(&self) -> u8
         ensures value { result ≡ inverted_r self.now.parts }
         ensures bound { result ≤ 128 }
@@ -69,6 +70,7 @@ impl Gathered<'_> {
         128 * (1 - self.parts.reg / 8 % 2)
     }
 
+    // R, X and B inverted, at the top of a byte
     fn inverted_rxb(&self) -> u8
         ensures value { result ≡ inverted_rxb self.now.parts }
         ensures bound { result ≤ 224 }
@@ -291,6 +293,7 @@ impl Line {
         }
     }
 
+    // the four bytes
     #[tactic(auto, unfolding(crate::specs::Heads::evex_onto))]
     fn push_evex(&mut self, head: &EvexHead, gathered: &Gathered)
         requires { self.old.count ≤ 7 }

@@ -51,7 +51,7 @@ pub struct Operands {
 
 impl Operands {
     // the places in their order
-    pub(crate) fn places(&self) -> [Option<Op>; 5]
+    pub fn places(&self) -> [Option<Op>; 5]
         ensures { result ≡ op_places self.now }
     {
         [self.op0, self.op1, self.op2, self.op3, self.op4]

@@ -6,6 +6,7 @@ use Rattle.policy.specs.Lowest.{lowest, SignedByte}
 use Rattle.policy.proofs.LowestIs.{lowest_some}
 use Rattle.gather.specs.declared.memory.Out.{Out}
 use Rattle.gather.specs.declared.memory.Out.TheVariants.{Nothing, Byte, Full, Wrong}
+use Rattle.gather.specs.declared.parts.RmPart.{RmPart}
 use Rattle.gather.specs.declared.refusal.Refusal.{Refusal}
 use Rattle.gather.specs.Parts.{refusing, blank}
 use Rattle.fault.specs.declared.operand.OperandFault.TheVariants as F
