@@ -1,4 +1,5 @@
-// A fault as numbers: its number, the operand's place (5 where there is none) and the layer that found it.
+// A fault as numbers: its number, the operand's place and the layer that found it. Where there is no place it is 5, the
+// number that an answer line has for it.
 #[derive(Clone, Copy)]
 pub struct FaultCode {
     pub number: u8,

@@ -4,7 +4,7 @@ ghost use Rattle.instruction.specs.Getters.{op_kind_at, op_register_at, displ_by
 use super::made::Instruction;
 use machine::{OpKind, Place, Register};
 
-// What the source computes from a field. A plain field is read as it is: code_size, prefixes, memory.base,
+// What the source computes from a field, by the source's names. A plain field is read as it is: code_size, prefixes, memory.base,
 // memory.index, memory.scale, mem_displ, immediate and evex.
 impl Instruction {
     // the kind of the operand at a place; the fifth is always an immediate byte

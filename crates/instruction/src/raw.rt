@@ -1,4 +1,4 @@
-// The fields of an instruction as numbers, whatever their values.
+// The fields of an instruction as numbers, whatever their values, one by one as the source has them.
 #[derive(Clone, Copy)]
 pub struct RawInstruction {
     pub code_size: u8,

@@ -18,6 +18,7 @@ use Rattle.instruction.specs.declared.raw.RawInstruction.{RawInstruction}
 use Rattle.record.specs.declared.op.Op.{Op}
 use Rattle.record.specs.declared.op.Op.TheVariants.{Ib, Id, Iq, J}
 use Rattle.record.specs.declared.op.Operands.{Operands}
+use Rattle.record.specs.Classes.{op_places}
 use Rattle.listing.specs.Drafts.{count_of, memory_at}
 use Rattle.listing.specs.declared.line.Asked.{Asked}
 use Rattle.listing.specs.declared.line.Given.{Given}
@@ -122,10 +123,6 @@ abbrev pub segment_of : Option Segment → ℕ
 segment_of (Some s) = segment_number s
 segment_of None = 0
 
--- the operands of a record by place
-abbrev pub by_place_of : Operands → List (Option Op)
-by_place_of o = o.op0 ∷ o.op1 ∷ o.op2 ∷ o.op3 ∷ o.op4 ∷ []
-
 abbrev pub slot_at : Asked → List (Option Op) → ℕ → Slot
 slot_at a l k = record { given = slice_index_or a.operands k None; op = slice_index_or l k None }
 
@@ -182,5 +179,5 @@ fields_of a mode l = record {
 -- the instruction, or a fault where the record has fewer operands
 abbrev pub instruction_of : Asked → ℕ → Operands → Result RawInstruction ListingFault
 instruction_of a mode o =
-    cond (nat_lt (count_of (by_place_of o)) (count_of a.operands)) (Err record { column = a.column; wanted = FewerOperands })
-    (Ok (fields_of a mode (slots_of a (by_place_of o))))
+    cond (nat_lt (count_of (op_places o)) (count_of a.operands)) (Err record { column = a.column; wanted = FewerOperands })
+    (Ok (fields_of a mode (slots_of a (op_places o))))

@@ -1,6 +1,6 @@
 // The instruction that a line asks for, as numbers.
 ghost use Rattle.std.specs.Prelude.{◌≡◌, ◌<◌};
-ghost use Rattle.listing.specs.Making.{expected_of, kind_of, number_of, register_of, displaced, imm_after, displ_with, displ_after, raw_size, usual_size, size_of, by_place_of, slot_at, slots_of, imm_of, displ_of, memory_of, fields_of, instruction_of};
+ghost use Rattle.listing.specs.Making.{expected_of, kind_of, number_of, register_of, displaced, imm_after, displ_with, displ_after, raw_size, usual_size, size_of, slot_at, slots_of, imm_of, displ_of, memory_of, fields_of, instruction_of};
 
 use super::drafting::count;
 use super::line::{Asked, Given, Memory};
@@ -138,19 +138,6 @@ impl Memory {
     }
 }
 
-// the operands of a record by place
-fn by_place(operands: &Operands) -> [Option<Op>; 5]
-    ensures { result ≡ by_place_of operands.now }
-{
-    [
-        operands.op0,
-        operands.op1,
-        operands.op2,
-        operands.op3,
-        operands.op4,
-    ]
-}
-
 // the immediate after all operands
 fn immediate(slots: &[Slot]) -> u32
     ensures { result ≡ imm_of slots.now }
@@ -224,7 +211,7 @@ impl Asked {
     pub fn instruction(&self, mode: u8, operands: &Operands) -> Result<RawInstruction, ListingFault>
         ensures { result ≡ instruction_of self.now mode operands.now }
     {
-        let ops = by_place(operands);
+        let ops = operands.places();
         if count(&self.operands) > count(&ops) {
             return Err(ListingFault {
                 column: self.column,

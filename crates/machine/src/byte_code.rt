@@ -5,7 +5,7 @@ ghost use Rattle.machine.specs.Registers.{byte_numbered};
 use super::register::Register;
 
 // How a register of the 8-bit bank is written: its number, 0 to 15, and whether a REX prefix has to be there (SPL to
-// DIL) or may not be (AH to BH).
+// DIL) or may not be (AH to BH). Two flags, as a head collects them apart and refuses where both are met.
 #[derive(Clone, Copy)]
 pub struct ByteCode {
     pub number: u8,

@@ -1,6 +1,7 @@
 ghost use Rattle.std.specs.Prelude.{◌≡◌, ℕ, Some, Option};
 
-// A type whose values have numbers: the number of a value and the value of a number, each the other's way back.
+// A type whose values have numbers: the number of a value and the value of a number, each the other's way back. A trait
+// of its own, since From and TryFrom have no law that joins the two; its tables are one jump, and a search is not.
 pub trait Code {
     ghost code: { Self → ℕ };
 

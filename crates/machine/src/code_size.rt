@@ -5,7 +5,7 @@ ghost use Rattle.std.proofs.Common.{rules};
 
 use super::code::Code;
 
-// A width of code, addresses or operands, or none stated: 0 to 3.
+// A width of code, addresses or operands, or none stated: 0 to 3. None is a case, as the source numbers it.
 #[derive(Clone, Copy, PartialEq, Eq)]
 pub enum CodeSize {
     Unknown,

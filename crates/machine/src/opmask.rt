@@ -5,7 +5,7 @@ ghost use Rattle.std.proofs.Common.{rules};
 
 use super::code::Code;
 
-// The mask register that an instruction works under, or none: 0 to 7.
+// The mask register that an instruction works under, or none: 0 to 7. None is a case, as the source numbers it.
 #[derive(Clone, Copy, PartialEq, Eq)]
 pub enum Opmask {
     Unmasked,

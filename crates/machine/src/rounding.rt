@@ -5,7 +5,7 @@ ghost use Rattle.std.proofs.Common.{rules};
 
 use super::code::Code;
 
-// Rounding stated by an instruction, or none: 0 to 4.
+// Rounding stated by an instruction, or none: 0 to 4. None is a case, as the source numbers it.
 #[derive(Clone, Copy, PartialEq, Eq)]
 pub enum RoundingControl {
     Unstated,

@@ -13,7 +13,7 @@ pub struct Chooser<E, P> {
     pub rest: P,
 }
 
-// whether the record's head is EVEX
+// whether the record's head is EVEX, asked in one place for both calls
 fn has_evex(record: &Record) -> bool
     ensures { result ≡ is_evex «record».now.raw.head }
 {

@@ -3,7 +3,7 @@ ghost use Rattle.record.specs.Classes.{belongs, belongs_at, class_count, has_cla
 
 use super::op::{Op, Operands};
 
-// What the rules ask of an operand.
+// What the rules ask of an operand. An enum, and no closure, as the rules and the encoder ask by the same names.
 #[derive(Clone, Copy)]
 pub enum Class {
     // takes ModRM.rm, the memory address or the opcode's register

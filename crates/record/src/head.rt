@@ -1,7 +1,7 @@
 ghost use Rattle.std.specs.Prelude.{◌≡◌};
 ghost use Rattle.record.specs.Rules.{is_legacy, is_evex};
 
-// What stands before the opcode of a legacy record.
+// What stands before the opcode of a legacy record: bytes, whatever their values.
 #[derive(Clone, Copy)]
 pub struct LegacyHead {
     pub table_byte1: u8,

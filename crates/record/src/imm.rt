@@ -3,7 +3,8 @@ ghost use Rattle.record.specs.Immediates.{imm_after, imm_shape, imm_count};
 
 use super::op::{Op, Operands};
 
-// The immediate operands of a record, taken together.
+// The immediate operands of a record, taken together. None and a wrong list are cases beside the others, so that one
+// match goes on from each.
 #[derive(Clone, Copy)]
 pub enum ImmShape {
     Nothing,

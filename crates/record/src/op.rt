@@ -39,7 +39,8 @@ pub enum Op {
     J(OpKind, u8),
 }
 
-// The operands of a record, by place. A place is filled only where the one before it is.
+// The operands of a record, by place. A place is filled only where the one before it is. The places have names of their
+// own, as the format has them; `places` gives them as one list.
 #[derive(Clone, Copy)]
 pub struct Operands {
     pub op0: Option<Op>,

@@ -15,7 +15,7 @@ use super::raw::RawRecord;
 use fault::Rule;
 
 impl RawRecord {
-    // the first rule that is broken, none in a sound record
+    // the first rule that is broken, none in a sound record; a loop over the rules would need a match that says the same
     pub fn broken_rule(&self) -> Option<Rule>
         ensures { result ≡ broken self.now }
     {
