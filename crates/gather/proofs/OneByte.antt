@@ -4,11 +4,12 @@ use Rattle.policy.specs.Lowest.{lowest}
 use Rattle.policy.proofs.LowestIs.{lowest_reached}
 use Rattle.gather.specs.declared.memory.Out.{Out}
 use Rattle.gather.specs.declared.memory.Out.TheVariants.{Byte, Full}
+use Rattle.gather.specs.declared.parts.RmPart.{RmPart}
 use Rattle.gather.specs.declared.refusal.Refusal.{Refusal}
 use Rattle.gather.specs.Memory16.{one16_of}
 use Rattle.gather.specs.Laws.{one_byte, is_size1, OneByteExactlyWhereOneStands}
 
-told : (o : Option ℤ) (out : Out) → ◌≡◌ {A = Result Out Refusal} (elim o [ Some v ↦ Ok (Byte v) | None ↦ Ok Full ]) (Ok out) → one_byte out ≡ is_some o
+told : (o : Option ℤ) (out : Out) → ◌≡◌ {A = Result Out (Refusal RmPart)} (elim o [ Some v ↦ Ok (Byte v) | None ↦ Ok Full ]) (Ok out) → one_byte out ≡ is_some o
 told (Some v) out e = let same : Byte v ≡ out = cc in sym (ap one_byte same)
 told None out e = let same : Full ≡ out = cc in sym (ap one_byte same)
 

@@ -1,5 +1,6 @@
 -- All operands of an instruction, in the order of their places.
 use Rattle.std.specs.Prelude.{ℕ, Bool, true, false, cond, not, ◌&&◌, ℤ, pos, negsuc, Some, None, Ok, Err, Option, Result, ◌==◌}
+use Rattle.std.specs.Option.{option_or}
 use Rattle.fault.specs.declared.encode.EncodeFault.{EncodeFault}
 use Rattle.fault.specs.declared.encode.EncodeFault.TheVariants.{Operand, Encoding}
 use Rattle.fault.specs.declared.encoding.EncodingFault.TheVariants as E
@@ -74,9 +75,8 @@ start m r =
 
 -- the first refusal is kept
 abbrev pub keep_first : Option EncodeFault → Place → Result (Unit {0}) OperandFault → Option EncodeFault
-keep_first (Some e) at r = Some e
-keep_first None at (Err f) = Some (Operand at f)
-keep_first None at (Ok u) = None
+keep_first before at (Err f) = option_or before (Some (Operand at f))
+keep_first before at (Ok u) = before
 
 abbrev pub after_step : Option EncodeFault → Place → Step → Gathering
 after_step f at s = record { parts = s.parts; fault = keep_first f at (told s) }

@@ -1,5 +1,6 @@
 pub mod Absolute
 pub mod Address
+pub mod Cases
 pub mod Gathered
 pub mod Immediates
 pub mod Laws

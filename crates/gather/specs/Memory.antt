@@ -39,24 +39,24 @@ abbrev pub index_allowed : Mode → ℕ → Option RegisterRange → ℕ → Boo
 index_allowed m bytes vsib n = n == 0 || in_range m (index_bank bytes vsib) n
 
 -- addresses of 64 bits only in mode 64, registers of their banks, a size that there is
-abbrev pub checked_of : (wide base index two : Bool) → Result (Unit {0}) Refusal
+abbrev pub checked_of : (wide base index two : Bool) → Result (Unit {0}) (Refusal RmPart)
 checked_of wide base index two =
     cond wide (refusing F.Address64Outside64 blank) (
     cond (not base) (refusing F.RegisterRange blank) (
     cond (not index) (refusing F.RegisterRange blank) (
     cond two (refusing F.Size blank) (Ok tt))))
 
-unfoldable pub mem_checked : Mode → ℕ → Option RegisterRange → Instruction → Result (Unit {0}) Refusal
+unfoldable pub mem_checked : Mode → ℕ → Option RegisterRange → Instruction → Result (Unit {0}) (Refusal RmPart)
 mem_checked m bytes vsib i =
     checked_of (not (is64 m) && bytes == 8) (base_allowed m bytes i.memory.base.number) (index_allowed m bytes vsib i.memory.index.number) (displ_bytes i.memory.displ_size == 2)
 
 -- an address that counts from the next instruction
-abbrev pub rip_part : ℕ → ℕ → Result RmPart Refusal
+abbrev pub rip_part : ℕ → ℕ → Result RmPart (Refusal RmPart)
 rip_part base target =
     cond (base == 70) (Ok (plain_part 0 5 (RipRelSize4Target64 target))) (
     cond (nat_lt 4294967295 target) (refusing F.EipTarget (plain_part 0 5 (RipRelSize4Target32 0))) (Ok (plain_part 0 5 (RipRelSize4Target32 (target % 4294967296)))))
 
-unfoldable pub rip_mem : Mode → Bool → Instruction → Result RmPart Refusal
+unfoldable pub rip_mem : Mode → Bool → Instruction → Result RmPart (Refusal RmPart)
 rip_mem m must i =
     cond (not (i.memory.index.number == 0)) (refusing F.RipIndex blank) (
     cond (not (scale_number i.memory.scale == 0)) (refusing F.RipScale blank) (
@@ -65,14 +65,14 @@ rip_mem m must i =
     rip_part i.memory.base.number i.mem_displ))))
 
 -- the displacement within 32 signed bits, or for 32-bit addresses unsigned too
-unfoldable pub displ_checked : ℕ → ℕ → Result (Unit {0}) Refusal
+unfoldable pub displ_checked : ℕ → ℕ → Result (Unit {0}) (Refusal RmPart)
 displ_checked bytes d =
     cond (bytes == 8)
     (cond (nat_le 2147483648 d && nat_lt d 18446744071562067968) (refusing F.DisplacementI32 blank) (Ok tt))
     (cond (nat_le 4294967296 d && nat_lt d 18446744071562067968) (refusing F.Displacement32 blank) (Ok tt))
 
 -- neither base nor index: with a SIB byte where one is wanted or mode 64 would read RIP
-unfoldable pub offset_mem : Mode → Bool → Option RegisterRange → ℕ → ℕ → Result RmPart Refusal
+unfoldable pub offset_mem : Mode → Bool → Option RegisterRange → ℕ → ℕ → Result RmPart (Refusal RmPart)
 offset_mem m must vsib scale d =
     cond (is_some vsib) (refusing F.VsibOffsetOnly blank) (
     cond (is64 m || (not (scale == 0) || must))
@@ -80,14 +80,14 @@ offset_mem m must vsib scale d =
     (Ok (plain_part 0 5 (Size4 (d % 4294967296)))))
 
 -- how the displacement goes out in the size asked, over a base of this number in its bank
-abbrev pub sized_out : (ℤ → ℤ) → ℕ → ℕ → ℕ → Result Out Refusal
+abbrev pub sized_out : (ℤ → ℤ) → ℕ → ℕ → ℕ → Result Out (Refusal RmPart)
 sized_out f bytes d size =
     cond (size == 1) (elim (lowest f (to_z w32 (d % 4294967296))) [ Some v ↦ Ok (Byte v) | None ↦ Ok Full ]) (
     cond (size == bytes) (Ok Full) (
     cond (size == 0) (cond (d == 0) (Ok Nothing) (refusing F.DisplacementNotZero blank)) (Ok Wrong)))
 
 -- with no base always whole; a base whose low bits are 101 needs a displacement
-abbrev pub displ_out : (ℤ → ℤ) → ℕ → Option ℕ → ℕ → ℕ → Result Out Refusal
+abbrev pub displ_out : (ℤ → ℤ) → ℕ → Option ℕ → ℕ → ℕ → Result Out (Refusal RmPart)
 displ_out f bytes None d size = Ok Full
 displ_out f bytes (Some base) d size =
     cond (size == 0 && base % 8 == 5) (cond (d == 0) (sized_out f bytes d 1) (refusing F.DisplacementNotZero blank)) (sized_out f bytes d size)
@@ -148,7 +148,7 @@ is_wrong Full = false
 is_wrong Wrong = true
 
 -- a size that is not the address's is refused at the end, and hides a stack pointer as index
-abbrev pub address_answer : Out → RmPart → Bool → RmPart → Result RmPart Refusal
+abbrev pub address_answer : Out → RmPart → Bool → RmPart → Result RmPart (Refusal RmPart)
 address_answer out part stack left =
     cond (is_wrong out) (refusing F.SizeOfAddress (cond stack left part)) (cond stack (refusing F.StackPointerIndex left) (Ok part))
 
@@ -157,7 +157,7 @@ unfoldable pub address_of : ℕ → Option RegisterRange → Instruction → Add
 address_of bytes vsib i =
     record { base = bank_number (address_bank bytes) i.memory.base.number; index = bank_number (index_bank bytes vsib) i.memory.index.number; stack = is_stack_pointer i.memory.index.number; scale = scale_number i.memory.scale; displ = i.mem_displ; size = displ_bytes i.memory.displ_size }
 
-unfoldable pub based_mem : (ℤ → ℤ) → ℕ → Bool → Address → Result RmPart Refusal
+unfoldable pub based_mem : (ℤ → ℤ) → ℕ → Bool → Address → Result RmPart (Refusal RmPart)
 based_mem f bytes must a =
     then (displ_out f bytes a.base a.displ a.size) (λ out.
     address_answer out (address_part must a.base a.index a.scale a.displ out) a.stack (stack_left a.base a.scale a.displ out))
@@ -167,7 +167,7 @@ unfoldable pub is_bare : Instruction → Bool
 is_bare i = i.memory.base.number == 0 && i.memory.index.number == 0
 
 -- the displacement's range, then an offset alone, then base and index
-unfoldable pub ranged_mem : (ℤ → ℤ) → Mode → ℕ → Bool → Option RegisterRange → Instruction → Result RmPart Refusal
+unfoldable pub ranged_mem : (ℤ → ℤ) → Mode → ℕ → Bool → Option RegisterRange → Instruction → Result RmPart (Refusal RmPart)
 ranged_mem f m bytes must vsib i =
     then (displ_checked bytes i.mem_displ) (λ _.
     cond (is_bare i)
@@ -175,6 +175,6 @@ ranged_mem f m bytes must vsib i =
     (based_mem f bytes must (address_of bytes vsib i)))
 
 -- a memory operand with an address of this many bytes, 4 or 8; others are refused by the checks of the registers
-unfoldable pub mem : (ℤ → ℤ) → Mode → ℕ → Bool → Option RegisterRange → Instruction → Result RmPart Refusal
+unfoldable pub mem : (ℤ → ℤ) → Mode → ℕ → Bool → Option RegisterRange → Instruction → Result RmPart (Refusal RmPart)
 mem f m bytes must vsib i =
     then (mem_checked m bytes vsib i) (λ _. cond (is_rip i.memory.base.number) (rip_mem m must i) (ranged_mem f m bytes must vsib i))

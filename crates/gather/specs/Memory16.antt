@@ -27,7 +27,7 @@ rm16 base index =
     cond (base == 0 && index == 0) (Some 6) None))))))))
 
 -- no base and no index: two bytes of displacement, which are zero where it does not fit
-abbrev pub offset16 : ℕ → Result RmPart Refusal
+abbrev pub offset16 : ℕ → Result RmPart (Refusal RmPart)
 offset16 d = cond (nat_lt 65535 d) (refusing DisplacementU16 (plain_part 0 6 (Size2 0))) (Ok (plain_part 0 6 (Size2 (d % 65536))))
 
 -- outside 16 bits, signed and unsigned
@@ -43,19 +43,19 @@ abbrev pub one16 : (ℤ → ℤ) → ℕ → ℕ → RmPart
 one16 f rm d = one16_of (lowest f (to_z w16 (d % 65536))) rm (d % 65536)
 
 -- a base: the displacement in the size asked; BP alone needs one
-abbrev pub sized16 : (ℤ → ℤ) → ℕ → ℕ → ℕ → Result RmPart Refusal
+abbrev pub sized16 : (ℤ → ℤ) → ℕ → ℕ → ℕ → Result RmPart (Refusal RmPart)
 sized16 f rm d size =
     cond (size == 1) (Ok (one16 f rm d)) (
     cond (size == 0) (cond (d == 0) (Ok (plain_part 0 rm Absent)) (refusing DisplacementNotZero (plain_part 0 rm Absent))) (
     cond (size == 2) (Ok (plain_part 2 rm (Size2 (d % 65536)))) (refusing Size16 (plain_part 0 rm Absent))))
 
-abbrev pub based16 : (ℤ → ℤ) → ℕ → Bool → ℕ → ℕ → Result RmPart Refusal
+abbrev pub based16 : (ℤ → ℤ) → ℕ → Bool → ℕ → ℕ → Result RmPart (Refusal RmPart)
 based16 f rm bp d size =
     cond (far16 d) (refusing Displacement16 (plain_part 0 rm Absent)) (
     cond (bp && size == 0) (cond (d == 0) (sized16 f rm d 1) (refusing DisplacementNotZero (plain_part 0 rm Absent))) (
     sized16 f rm d size))
 
-abbrev pub mem16 : (ℤ → ℤ) → Mode → Instruction → Result RmPart Refusal
+abbrev pub mem16 : (ℤ → ℤ) → Mode → Instruction → Result RmPart (Refusal RmPart)
 mem16 f m i =
     let base = i.memory.base.number in
     let index = i.memory.index.number in

@@ -14,10 +14,10 @@ plain_part mode rm d = record { mode = mode; rm = rm; b = 0; x = 0; v2 = 0; sib 
 abbrev pub blank : RmPart
 blank = plain_part 0 0 Absent
 
-abbrev pub refusing : {X : Type 0} → OperandFault → RmPart → Result X Refusal
+abbrev pub refusing : {X T : Type 0} → OperandFault → T → Result X (Refusal T)
 refusing f left = Err record { fault = f; left = left }
 
 -- a step that refused ends the operand
-abbrev pub then : {X Y : Type 0} → Result X Refusal → (X → Result Y Refusal) → Result Y Refusal
+abbrev pub then : {X Y T : Type 0} → Result X (Refusal T) → (X → Result Y (Refusal T)) → Result Y (Refusal T)
 then (Ok x) f = f x
 then (Err e) f = Err e

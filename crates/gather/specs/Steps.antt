@@ -14,7 +14,6 @@ use Rattle.record.specs.declared.op.RegisterRange.{RegisterRange}
 use Rattle.record.specs.declared.sound.Record.{Record}
 use Rattle.record.specs.Flags.{has_flag}
 use Rattle.gather.specs.declared.absolute.Offset.{Offset}
-use Rattle.gather.specs.declared.absolute.OffsetRefusal.{OffsetRefusal}
 use Rattle.gather.specs.declared.immediate.Branch.{Branch}
 use Rattle.gather.specs.declared.parts.HeadFlags.{HeadFlags}
 use Rattle.gather.specs.declared.parts.Imm.{Imm}
@@ -103,10 +102,10 @@ abbrev pub broadcasts : Record → Instruction → Bool
 broadcasts r i = i.evex.broadcast && has_flag r.raw.enc_flags3 Flags.Broadcast
 
 -- a memory operand by the size of its address
-abbrev pub mem_sized : (ℤ → ℤ) → Mode → ℕ → Bool → Option RegisterRange → Instruction → Result RmPart Refusal
+abbrev pub mem_sized : (ℤ → ℤ) → Mode → ℕ → Bool → Option RegisterRange → Instruction → Result RmPart (Refusal RmPart)
 mem_sized f m bytes must vsib i = cond (bytes == 2) (cond (is_some vsib) (refusing F.Vsib16 blank) (mem16 f m i)) (mem f m bytes must vsib i)
 
-abbrev pub memory_step : Parts → Bool → Bool → Result RmPart Refusal → Step
+abbrev pub memory_step : Parts → Bool → Bool → Result RmPart (Refusal RmPart) → Step
 memory_step p p67 broadcast (Ok part) = done (with_flags (with_rm p part) (addressing p.flags p67 broadcast))
 memory_step p p67 broadcast (Err r) = faulty (with_flags (with_rm p r.left) (addressing p.flags p67 broadcast)) r.fault
 
@@ -122,7 +121,7 @@ abbrev pub branch_step : Parts → Result Branch OperandFault → Step
 branch_step p (Ok b) = done (put_branch p b)
 branch_step p (Err f) = faulty p f
 
-abbrev pub offset_step : Parts → Result Offset OffsetRefusal → Step
+abbrev pub offset_step : Parts → Result Offset (Refusal Offset) → Step
 offset_step p (Ok o) = done (put_offset p o)
 offset_step p (Err r) = faulty (put_offset p r.left) r.fault
 

@@ -3,6 +3,7 @@ ghost use Rattle.std.specs.Prelude.{◌≡◌};
 ghost use Rattle.gather.specs.Absolute.{offset_blank, offset_2, offset_4, offset_8, offset_sized, absolute};
 
 use super::parts::Displ;
+use super::refusal::Refusal;
 use super::register::is_memory;
 use fault::OperandFault;
 use instruction::Instruction;
@@ -15,18 +16,12 @@ pub struct Offset {
     pub p67: bool,
 }
 
-// A refused offset, and what it leaves.
-#[derive(Clone, Copy)]
-pub struct OffsetRefusal {
-    pub fault: OperandFault,
-    pub left: Offset,
-}
-
-impl OffsetRefusal {
-    fn blank(fault: OperandFault) -> OffsetRefusal
+impl Refusal<Offset> {
+    // refused before anything is set
+    fn nothing(fault: OperandFault) -> Refusal<Offset>
         ensures { result ≡ offset_blank fault }
     {
-        OffsetRefusal {
+        Refusal {
             fault,
             left: Offset {
                 displ: Displ::Absent,
@@ -36,52 +31,52 @@ impl OffsetRefusal {
     }
 }
 
-fn offset_2(mode: Mode, displ: u64) -> Result<Offset, OffsetRefusal>
+fn offset_2(mode: Mode, displ: u64) -> Result<Offset, Refusal<Offset>>
     ensures { result ≡ offset_2 mode displ }
 {
     if mode.is64() {
-        return Err(OffsetRefusal::blank(OperandFault::Absolute16In64));
+        return Err(Refusal::nothing(OperandFault::Absolute16In64));
     }
     let p67 = matches!(mode, Mode::Bits32);
-    if displ > 65535 {
-        return Err(OffsetRefusal {
+    let Ok(displ) = u16::try_from(displ) else {
+        return Err(Refusal {
             fault: OperandFault::DisplacementU16,
             left: Offset {
                 displ: Displ::Size2(0),
                 p67,
             },
         });
-    }
+    };
     Ok(Offset {
-        displ: Displ::Size2((displ % 65536) as u16),
+        displ: Displ::Size2(displ),
         p67,
     })
 }
 
-fn offset_4(mode: Mode, displ: u64) -> Result<Offset, OffsetRefusal>
+fn offset_4(mode: Mode, displ: u64) -> Result<Offset, Refusal<Offset>>
     ensures { result ≡ offset_4 mode displ }
 {
     let p67 = !matches!(mode, Mode::Bits32);
-    if displ > 0xFFFF_FFFF {
-        return Err(OffsetRefusal {
+    let Ok(displ) = u32::try_from(displ) else {
+        return Err(Refusal {
             fault: OperandFault::DisplacementU32,
             left: Offset {
                 displ: Displ::Size4(0),
                 p67,
             },
         });
-    }
+    };
     Ok(Offset {
-        displ: Displ::Size4((displ % 0x1_0000_0000) as u32),
+        displ: Displ::Size4(displ),
         p67,
     })
 }
 
-fn offset_8(mode: Mode, displ: u64) -> Result<Offset, OffsetRefusal>
+fn offset_8(mode: Mode, displ: u64) -> Result<Offset, Refusal<Offset>>
     ensures { result ≡ offset_8 mode displ }
 {
     if !mode.is64() {
-        return Err(OffsetRefusal::blank(OperandFault::Absolute64Outside64));
+        return Err(Refusal::nothing(OperandFault::Absolute64Outside64));
     }
     Ok(Offset {
         displ: Displ::Size8(displ),
@@ -89,14 +84,14 @@ fn offset_8(mode: Mode, displ: u64) -> Result<Offset, OffsetRefusal>
     })
 }
 
-fn offset_sized(mode: Mode, displ: u64, size: u8) -> Result<Offset, OffsetRefusal>
+fn offset_sized(mode: Mode, displ: u64, size: u8) -> Result<Offset, Refusal<Offset>>
     ensures { result ≡ offset_sized mode displ size }
 {
     match size {
         2 => offset_2(mode, displ),
         4 => offset_4(mode, displ),
         8 => offset_8(mode, displ),
-        _ => Err(OffsetRefusal::blank(OperandFault::AbsoluteSize)),
+        _ => Err(Refusal::nothing(OperandFault::AbsoluteSize)),
     }
 }
 
@@ -105,17 +100,17 @@ pub(crate) fn absolute(
     mode: Mode,
     kind: OpKind,
     instruction: &Instruction,
-) -> Result<Offset, OffsetRefusal>
+) -> Result<Offset, Refusal<Offset>>
     ensures { result ≡ absolute mode kind instruction.now }
 {
     if !is_memory(kind) {
-        return Err(OffsetRefusal::blank(OperandFault::OpKind));
+        return Err(Refusal::nothing(OperandFault::OpKind));
     }
     if instruction.memory.base.number != 0 || instruction.memory.index.number != 0 {
-        return Err(OffsetRefusal::blank(OperandFault::AbsoluteRegisters));
+        return Err(Refusal::nothing(OperandFault::AbsoluteRegisters));
     }
     if instruction.memory.scale as u8 != 0 {
-        return Err(OffsetRefusal::blank(OperandFault::AbsoluteScale));
+        return Err(Refusal::nothing(OperandFault::AbsoluteScale));
     }
     let size = instruction.memory_displ_size();
     offset_sized(mode, instruction.mem_displ, size)

@@ -1,10 +1,10 @@
 ghost use Rattle.std.specs.Prelude.{◌≡◌};
-ghost use Rattle.gather.specs.Gathered.{group_number, group_rm, size_66, size_67, is_64, start_flags, start_parts, mode_fault, start, keep_first, place_step, in_order, gathered};
+ghost use Rattle.gather.specs.Gathered.{group_number, group_rm, size_66, size_67, is_64, start_flags, start_parts, mode_fault, start, place_step, in_order, gathered};
 ghost use Rattle.gather.specs.Laws.{OneByteExactlyWhereOneStands};
 
-use super::operand::op_step;
+use super::case::Case;
 use super::parts::{Displ, HeadFlags, Imm, Parts, RmPart};
-use fault::{EncodeFault, EncodingFault, OperandFault};
+use fault::{EncodeFault, EncodingFault};
 use instruction::Instruction;
 use machine::{CodeSize, Mode, Place};
 use policy::Policy;
@@ -20,16 +20,15 @@ pub struct Gathering {
 fn group_number(index: i8) -> u8
     ensures { result ≡ group_number index }
 {
-    if index >= 0 { index as u8 } else { 0 }
+    u8::try_from(index).unwrap_or(0)
 }
 
 fn group_rm(index: i8) -> RmPart
     ensures { result ≡ group_rm index }
 {
-    if index >= 0 {
-        RmPart::plain(3, index as u8, Displ::Absent)
-    } else {
-        RmPart::plain(0, 0, Displ::Absent)
+    match u8::try_from(index) {
+        Ok(number) => RmPart::plain(3, number, Displ::Absent),
+        Err(_) => RmPart::plain(0, 0, Displ::Absent),
     }
 }
 
@@ -82,32 +81,17 @@ fn start_parts(mode: Mode, raw: &RawRecord) -> Parts
 fn mode_fault(m64: bool, old: bool, new: bool) -> Option<EncodeFault>
     ensures { result ≡ mode_fault m64 old new }
 {
-    if m64 && old && !new {
-        return Some(EncodeFault::Encoding(EncodingFault::Only1632));
-    }
-    if !m64 && new && !old {
-        return Some(EncodeFault::Encoding(EncodingFault::Only64));
-    }
-    None
-}
-
-fn keep_first(
-    before: Option<EncodeFault>,
-    place: Place,
-    told: Result<(), OperandFault>,
-) -> Option<EncodeFault>
-    ensures { result ≡ keep_first before place told }
-{
-    match (before, told) {
-        (Some(first), _) => Some(first),
-        (None, Err(fault)) => Some(EncodeFault::Operand(place, fault)),
-        (None, Ok(_)) => None,
+    match (m64, old, new) {
+        (true, true, false) => Some(EncodeFault::Encoding(EncodingFault::Only1632)),
+        (false, false, true) => Some(EncodeFault::Encoding(EncodingFault::Only64)),
+        _ => None,
     }
 }
 
 impl Gathering {
     // the parts before any operand
-    pub(crate) fn start(mode: Mode, record: &Record) -> Gathering
+    #[tactic(auto, unfolding(crate::specs::Gathered::start))]
+    fn start(mode: Mode, record: &Record) -> Gathering
         ensures { result ≡ start mode «record».now }
     {
         let flags = record.raw.enc_flags3;
@@ -121,28 +105,15 @@ impl Gathering {
         }
     }
 
-    // the operand at a place, where there is one
-    pub(crate) fn add<P: Policy>(
-        &mut self,
-        policy: &P,
-        mode: Mode,
-        record: &Record,
-        instruction: &Instruction,
-        place: Place,
-    )
-        ensures { self.new ≡ place_step (P.spread policy.now) mode «record».now instruction.now place self.old }
+    // the operand at a place, where there is one; the first refusal is kept
+    #[tactic(auto, unfolding(crate::specs::Gathered::place_step))]
+    fn add<P: Policy>(&mut self, case: &Case<P>, place: Place)
+        ensures { self.new ≡ place_step (P.spread case.now.policy.now) case.now.mode case.now.record.now case.now.instruction.now place self.old }
     {
-        if let Some(op) = record.op(place) {
-            let told = op_step(
-                policy,
-                mode,
-                record,
-                instruction,
-                place,
-                op,
-                &mut self.parts,
-            );
-            self.fault = keep_first(self.fault, place, told);
+        if let Some(op) = case.record.op(place)
+            && let Err(fault) = case.op_step(place, op, &mut self.parts)
+        {
+            self.fault = self.fault.or(Some(EncodeFault::Operand(place, fault)));
         }
     }
 }
@@ -157,22 +128,23 @@ pub fn gather<P: Policy>(
     ensures value { result ≡ gathered (P.spread policy.now) mode «record».now instruction.now }
     ensures one_byte { OneByteExactlyWhereOneStands }
 {
-    in_order(policy, mode, record, instruction)
+    let case = Case {
+        policy,
+        mode,
+        record,
+        instruction,
+    };
+    in_order(&case)
 }
 
-fn in_order<P: Policy>(
-    policy: &P,
-    mode: Mode,
-    record: &Record,
-    instruction: &Instruction,
-) -> Gathering
-    ensures { result ≡ in_order (P.spread policy.now) mode «record».now instruction.now }
+fn in_order<P: Policy>(case: &Case<P>) -> Gathering
+    ensures { result ≡ in_order (P.spread case.now.policy.now) case.now.mode case.now.record.now case.now.instruction.now }
 {
-    let mut gathering = Gathering::start(mode, record);
-    gathering.add(policy, mode, record, instruction, Place::Op0);
-    gathering.add(policy, mode, record, instruction, Place::Op1);
-    gathering.add(policy, mode, record, instruction, Place::Op2);
-    gathering.add(policy, mode, record, instruction, Place::Op3);
-    gathering.add(policy, mode, record, instruction, Place::Op4);
+    let mut gathering = Gathering::start(case.mode, case.record);
+    gathering.add(case, Place::Op0);
+    gathering.add(case, Place::Op1);
+    gathering.add(case, Place::Op2);
+    gathering.add(case, Place::Op3);
+    gathering.add(case, Place::Op4);
     gathering
 }

@@ -3,6 +3,7 @@
 
 mod absolute;
 mod address;
+mod case;
 mod gathering;
 mod immediate;
 mod memory;

@@ -1,14 +1,13 @@
 // Memory operands with 16-bit addresses.
 ghost use Rattle.std.specs.Prelude.{◌≡◌};
-ghost use Rattle.gather.specs.Memory16.{rm16, offset16, far16, one16, sized16, based16, mem16};
+ghost use Rattle.gather.specs.Cases.{meaning};
+ghost use Rattle.gather.specs.Memory16.{rm16, offset16, one16, sized16, based16, mem16};
 
+use super::case::Case;
 use super::parts::{Displ, RmPart};
 use super::refusal::Refusal;
 use fault::OperandFault;
-use instruction::Instruction;
-use machine::Mode;
 use policy::Policy;
-use record::Record;
 
 // ModRM.rm of a pair of base and index
 fn rm16(base: u8, index: u8) -> Option<u8>
@@ -28,105 +27,89 @@ fn rm16(base: u8, index: u8) -> Option<u8>
     }
 }
 
-fn offset16(displ: u64) -> Result<RmPart, Refusal>
+fn offset16(displ: u64) -> Result<RmPart, Refusal<RmPart>>
     ensures { result ≡ offset16 displ }
 {
-    if displ > 65535 {
-        return Err(Refusal::leaving(
-            OperandFault::DisplacementU16,
-            RmPart::plain(0, 6, Displ::Size2(0)),
-        ));
-    }
-    Ok(RmPart::plain(0, 6, Displ::Size2((displ % 65536) as u16)))
-}
-
-// a displacement asked in one byte: one where some byte stands for it, else two
-fn one16<P: Policy>(policy: &P, record: &Record, broadcast: bool, rm: u8, displ: u64) -> RmPart
-    ensures { result ≡ one16 (P.spread policy.now «record».now broadcast) rm displ }
-{
-    let low = (displ % 65536) as u16;
-    match policy.shorten(record, broadcast, low.cast_signed() as i32) {
-        Some(v) => RmPart::plain(1, rm, Displ::Size1(v.cast_unsigned())),
-        None => RmPart::plain(2, rm, Displ::Size2(low)),
-    }
-}
-
-fn sized16<P: Policy>(
-    policy: &P,
-    record: &Record,
-    broadcast: bool,
-    rm: u8,
-    displ: u64,
-    size: u8,
-) -> Result<RmPart, Refusal>
-    ensures { result ≡ sized16 (P.spread policy.now «record».now broadcast) rm displ size }
-{
-    let bare = RmPart::plain(0, rm, Displ::Absent);
-    match size {
-        0 => if displ == 0 {
-            Ok(bare)
-        } else {
-            Err(Refusal::leaving(OperandFault::DisplacementNotZero, bare))
-        },
-        1 => Ok(one16(policy, record, broadcast, rm, displ)),
-        2 => Ok(RmPart::plain(2, rm, Displ::Size2((displ % 65536) as u16))),
-        _ => Err(Refusal::leaving(OperandFault::Size16, bare)),
-    }
-}
-
-fn based16<P: Policy>(
-    policy: &P,
-    record: &Record,
-    broadcast: bool,
-    rm: u8,
-    bp: bool,
-    displ: u64,
-    size: u8,
-) -> Result<RmPart, Refusal>
-    ensures { result ≡ based16 (P.spread policy.now «record».now broadcast) rm bp displ size }
-{
-    let bare = RmPart::plain(0, rm, Displ::Absent);
-    if displ > 65535 && displ < 0xFFFF_FFFF_FFFF_8000 {
-        return Err(Refusal::leaving(OperandFault::Displacement16, bare));
-    }
-    if bp && size == 0 {
-        if displ != 0 {
-            return Err(Refusal::leaving(OperandFault::DisplacementNotZero, bare));
-        }
-        return sized16(policy, record, broadcast, rm, displ, 1);
-    }
-    sized16(policy, record, broadcast, rm, displ, size)
-}
-
-// a memory operand with a 16-bit address
-pub(crate) fn mem16<P: Policy>(
-    policy: &P,
-    record: &Record,
-    broadcast: bool,
-    mode: Mode,
-    instruction: &Instruction,
-) -> Result<RmPart, Refusal>
-    ensures { result ≡ mem16 (P.spread policy.now «record».now broadcast) mode instruction.now }
-{
-    if mode.is64() {
-        return Err(Refusal::blank(OperandFault::Address16In64));
-    }
-    let base = instruction.memory.base.number;
-    let index = instruction.memory.index.number;
-    let Some(rm) = rm16(base, index) else {
-        return Err(Refusal::blank(OperandFault::Registers16));
+    let Ok(displ) = u16::try_from(displ) else {
+        return Err(Refusal {
+            fault: OperandFault::DisplacementU16,
+            left: RmPart::plain(0, 6, Displ::Size2(0)),
+        });
     };
-    if base == 0 && index == 0 {
-        return offset16(instruction.mem_displ);
+    Ok(RmPart::plain(0, 6, Displ::Size2(displ)))
+}
+
+impl<P: Policy> Case<'_, P> {
+    // a displacement asked in one byte: one where some byte stands for it, else two
+    fn one16(&self, rm: u8) -> RmPart
+        ensures { result ≡ one16 (meaning P.spread self.now) rm self.now.instruction.now.mem_displ }
+    {
+        let low = (self.instruction.mem_displ % 0x1_0000) as u16;
+        match self.shorten(i32::from(low.cast_signed())) {
+            Some(v) => RmPart::plain(1, rm, Displ::Size1(v.cast_unsigned())),
+            None => RmPart::plain(2, rm, Displ::Size2(low)),
+        }
     }
-    let size = instruction.memory_displ_size();
-    based16(
-        policy,
-        record,
-        broadcast,
-        rm,
-        base == 26 && index == 0,
-        instruction.mem_displ,
-        size,
-    )
+
+    fn sized16(&self, rm: u8, size: u8) -> Result<RmPart, Refusal<RmPart>>
+        ensures { result ≡ sized16 (meaning P.spread self.now) rm self.now.instruction.now.mem_displ size }
+    {
+        let displ = self.instruction.mem_displ;
+        let left = RmPart::plain(0, rm, Displ::Absent);
+        match size {
+            0 if displ == 0 => Ok(left),
+            0 => Err(Refusal {
+                fault: OperandFault::DisplacementNotZero,
+                left,
+            }),
+            1 => Ok(self.one16(rm)),
+            2 => Ok(RmPart::plain(2, rm, Displ::Size2((displ % 0x1_0000) as u16))),
+            _ => Err(Refusal {
+                fault: OperandFault::Size16,
+                left,
+            }),
+        }
+    }
+
+    fn based16(&self, rm: u8, bp: bool, size: u8) -> Result<RmPart, Refusal<RmPart>>
+        ensures { result ≡ based16 (meaning P.spread self.now) rm bp self.now.instruction.now.mem_displ size }
+    {
+        let displ = self.instruction.mem_displ;
+        let left = RmPart::plain(0, rm, Displ::Absent);
+        if displ > 65535 && displ < 0xFFFF_FFFF_FFFF_8000 {
+            return Err(Refusal {
+                fault: OperandFault::Displacement16,
+                left,
+            });
+        }
+        if bp && size == 0 {
+            if displ != 0 {
+                return Err(Refusal {
+                    fault: OperandFault::DisplacementNotZero,
+                    left,
+                });
+            }
+            return self.sized16(rm, 1);
+        }
+        self.sized16(rm, size)
+    }
+
+    // a memory operand with a 16-bit address
+    pub(crate) fn mem16(&self) -> Result<RmPart, Refusal<RmPart>>
+        ensures { result ≡ mem16 (meaning P.spread self.now) self.now.mode self.now.instruction.now }
+    {
+        if self.mode.is64() {
+            return Err(Refusal::blank(OperandFault::Address16In64));
+        }
+        let base = self.instruction.memory.base.number;
+        let index = self.instruction.memory.index.number;
+        let Some(rm) = rm16(base, index) else {
+            return Err(Refusal::blank(OperandFault::Registers16));
+        };
+        if base == 0 && index == 0 {
+            return offset16(self.instruction.mem_displ);
+        }
+        let bp = base == 26 && index == 0;
+        self.based16(rm, bp, self.instruction.memory_displ_size())
+    }
 }

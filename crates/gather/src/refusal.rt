@@ -4,11 +4,11 @@ ghost use Rattle.gather.specs.Parts.{plain_part, blank};
 use super::parts::{Displ, RmPart};
 use fault::OperandFault;
 
-// A refused memory or register operand, and what it leaves in its part.
+// A refused operand, and what it leaves in its part.
 #[derive(Clone, Copy)]
-pub struct Refusal {
+pub struct Refusal<T> {
     pub fault: OperandFault,
-    pub left: RmPart,
+    pub left: T,
 }
 
 impl RmPart {
@@ -28,15 +28,9 @@ impl RmPart {
     }
 }
 
-impl Refusal {
-    pub(crate) fn leaving(fault: OperandFault, left: RmPart) -> Refusal
-        ensures { (result.fault ≡ fault) × (result.left ≡ left) }
-    {
-        Refusal { fault, left }
-    }
-
+impl Refusal<RmPart> {
     // refused before anything is set
-    pub(crate) fn blank(fault: OperandFault) -> Refusal
+    pub(crate) fn blank(fault: OperandFault) -> Refusal<RmPart>
         ensures { (result.fault ≡ fault) × (result.left ≡ blank) }
     {
         Refusal {

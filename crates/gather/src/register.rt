@@ -1,11 +1,15 @@
 // Register operands.
 ghost use Rattle.std.specs.Prelude.{◌≡◌};
+ghost use Rattle.instruction.specs.Getters.{op_kind_at, op_register_at};
 ghost use Rattle.gather.specs.Registers.{reg_part, ranged_register, is_register, is_memory, register_operand, rm_register};
+ghost use Rattle.gather.specs.Steps.{fixed_told};
 
 use super::address::in_range;
+use super::case::Case;
 use super::parts::{Displ, RmPart};
 use fault::OperandFault;
-use machine::{Mode, OpKind, Register};
+use machine::{OpKind, Place, Register};
+use policy::Policy;
 use record::RegisterRange;
 
 // A register operand: its number in its range, and whether a REX prefix has to be there or may not be.
@@ -50,20 +54,6 @@ impl RegPart {
     }
 }
 
-pub(crate) fn ranged_register(
-    mode: Mode,
-    range: RegisterRange,
-    register: Register,
-) -> Result<RegPart, OperandFault>
-    ensures { result ≡ ranged_register mode range register.number }
-{
-    if in_range(mode, range, register) {
-        Ok(RegPart::new(range, register))
-    } else {
-        Err(OperandFault::RegisterRange)
-    }
-}
-
 pub(crate) fn is_register(kind: OpKind) -> bool
     ensures { result ≡ is_register kind }
 {
@@ -76,17 +66,47 @@ pub(crate) fn is_memory(kind: OpKind) -> bool
     matches!(kind, OpKind::Memory)
 }
 
-// an operand that has to be a register of the range
-pub(crate) fn register_operand(
-    mode: Mode,
-    range: RegisterRange,
-    kind: OpKind,
-    register: Register,
-) -> Result<RegPart, OperandFault>
-    ensures { result ≡ register_operand mode range kind register.number }
-{
-    if !is_register(kind) {
-        return Err(OperandFault::OpKind);
+impl<P: Policy> Case<'_, P> {
+    // the register at a place, which has to be one of the range
+    pub(crate) fn ranged_register(
+        &self,
+        place: Place,
+        range: RegisterRange,
+    ) -> Result<RegPart, OperandFault>
+        ensures { result ≡ ranged_register self.now.mode range (op_register_at self.now.instruction.now place) }
+    {
+        let register = self.instruction.op_register(place);
+        if in_range(self.mode, range, register) {
+            Ok(RegPart::new(range, register))
+        } else {
+            Err(OperandFault::RegisterRange)
+        }
     }
-    ranged_register(mode, range, register)
+
+    // the operand at a place, which has to be a register of the range
+    pub(crate) fn register_operand(
+        &self,
+        place: Place,
+        range: RegisterRange,
+    ) -> Result<RegPart, OperandFault>
+        ensures { result ≡ register_operand self.now.mode range (op_kind_at self.now.instruction.now place) (op_register_at self.now.instruction.now place) }
+    {
+        if !is_register(self.instruction.op_kind(place)) {
+            return Err(OperandFault::OpKind);
+        }
+        self.ranged_register(place, range)
+    }
+
+    // one register, which no byte carries
+    pub(crate) fn fixed_told(&self, place: Place, wanted: u8) -> Result<(), OperandFault>
+        ensures { result ≡ fixed_told wanted (op_kind_at self.now.instruction.now place) (op_register_at self.now.instruction.now place) }
+    {
+        if !is_register(self.instruction.op_kind(place)) {
+            return Err(OperandFault::OpKind);
+        }
+        if wanted != self.instruction.op_register(place).number {
+            return Err(OperandFault::FixedRegister);
+        }
+        Ok(())
+    }
 }
