@@ -36,19 +36,12 @@ abbrev pub group_rm : ℤ → RmPart
 group_rm (pos n) = plain_part 3 n Absent
 group_rm (negsuc n) = blank
 
--- a 66 prefix for operands of 16 bits outside mode 16, and of 32 bits in mode 16
-abbrev pub size_66 : Mode → CodeSize → Bool
-size_66 m Unknown = false
-size_66 m Code16 = not (mode_bytes m == 2)
-size_66 m Code32 = mode_bytes m == 2
-size_66 m Code64 = false
-
--- a 67 prefix for addresses of 16 bits outside mode 16, and of 32 bits outside mode 32
-abbrev pub size_67 : Mode → CodeSize → Bool
-size_67 m Unknown = false
-size_67 m Code16 = not (mode_bytes m == 2)
-size_67 m Code32 = not (mode_bytes m == 4)
-size_67 m Code64 = false
+-- a prefix for a size of 16 bits outside mode 16, and of 32 bits where the mode does not take them by itself
+abbrev pub asks_prefix : Mode → CodeSize → (takes32 : Bool) → Bool
+asks_prefix m Unknown takes32 = false
+asks_prefix m Code16 takes32 = not (mode_bytes m == 2)
+asks_prefix m Code32 takes32 = not takes32
+asks_prefix m Code64 takes32 = false
 
 abbrev pub is_64 : CodeSize → Bool
 is_64 Unknown = false
@@ -56,9 +49,10 @@ is_64 Code16 = false
 is_64 Code32 = false
 is_64 Code64 = true
 
+-- modes 32 and 64 take operands of 32 bits by themselves, mode 32 addresses
 abbrev pub start_flags : Mode → RawRecord → HeadFlags
 start_flags m r =
-    record { p66 = size_66 m r.op_size; p67 = size_67 m r.addr_size; w = is_64 r.op_size && not (has_flag r.enc_flags3 Flags.DefaultOpSize64); rex = false; high = false; broadcast = false }
+    record { p66 = asks_prefix m r.op_size (not (mode_bytes m == 2)); p67 = asks_prefix m r.addr_size (mode_bytes m == 4); w = is_64 r.op_size && not (has_flag r.enc_flags3 Flags.DefaultOpSize64); rex = false; high = false; broadcast = false }
 
 -- the parts before any operand
 abbrev pub start_parts : Mode → RawRecord → Parts

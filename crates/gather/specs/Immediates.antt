@@ -15,8 +15,8 @@ use Rattle.machine.specs.Modes.{mode_bytes}
 abbrev pub same_kind : OpKind → OpKind → Bool
 same_kind a b = kind_number a == kind_number b
 
--- the immediate where the kind is the one expected
-abbrev pub expecting : OpKind → OpKind → Imm → Result Imm OperandFault
+-- what an operand gives where its kind is the one expected
+abbrev pub expecting : {X : Type 0} → OpKind → OpKind → X → Result X OperandFault
 expecting expected k x = cond (same_kind expected k) (Ok x) (Err F.OpKind)
 
 -- the number of the kind of a second immediate byte
@@ -57,4 +57,4 @@ branch_of m k size i =
     (cond (size == 1) record { imm = RipRelSize1Target64 i.mem_displ; p66 = false } record { imm = RipRelSize4Target64 i.mem_displ; p66 = false }))
 
 abbrev pub branch_operand : Mode → OpKind → ℕ → OpKind → Instruction → Result Branch OperandFault
-branch_operand m expected size k i = cond (same_kind expected k) (Ok (branch_of m expected size i)) (Err F.OpKind)
+branch_operand m expected size k i = expecting expected k (branch_of m expected size i)

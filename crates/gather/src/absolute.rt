@@ -1,13 +1,15 @@
 // Memory at an absolute offset.
 ghost use Rattle.std.specs.Prelude.{◌≡◌};
+ghost use Rattle.instruction.specs.Getters.{op_kind_at};
 ghost use Rattle.gather.specs.Absolute.{offset_blank, offset_2, offset_4, offset_8, offset_sized, absolute};
 
+use super::case::Case;
 use super::parts::Displ;
 use super::refusal::Refusal;
 use super::register::is_memory;
 use fault::OperandFault;
-use instruction::Instruction;
-use machine::{Mode, OpKind};
+use machine::{Mode, Place, Scale};
+use policy::Policy;
 
 // An offset to be written, and whether it asks for a 67 prefix.
 #[derive(Clone, Copy)]
@@ -37,7 +39,7 @@ fn offset_2(mode: Mode, displ: u64) -> Result<Offset, Refusal<Offset>>
     if mode.is64() {
         return Err(Refusal::nothing(OperandFault::Absolute16In64));
     }
-    let p67 = matches!(mode, Mode::Bits32);
+    let p67 = mode == Mode::Bits32;
     let Ok(displ) = u16::try_from(displ) else {
         return Err(Refusal {
             fault: OperandFault::DisplacementU16,
@@ -56,7 +58,7 @@ fn offset_2(mode: Mode, displ: u64) -> Result<Offset, Refusal<Offset>>
 fn offset_4(mode: Mode, displ: u64) -> Result<Offset, Refusal<Offset>>
     ensures { result ≡ offset_4 mode displ }
 {
-    let p67 = !matches!(mode, Mode::Bits32);
+    let p67 = mode != Mode::Bits32;
     let Ok(displ) = u32::try_from(displ) else {
         return Err(Refusal {
             fault: OperandFault::DisplacementU32,
@@ -95,23 +97,22 @@ fn offset_sized(mode: Mode, displ: u64, size: u8) -> Result<Offset, Refusal<Offs
     }
 }
 
-// memory without base, index and scale, at an offset of the size stated
-pub(crate) fn absolute(
-    mode: Mode,
-    kind: OpKind,
-    instruction: &Instruction,
-) -> Result<Offset, Refusal<Offset>>
-    ensures { result ≡ absolute mode kind instruction.now }
-{
-    if !is_memory(kind) {
-        return Err(Refusal::nothing(OperandFault::OpKind));
+impl<P: Policy> Case<'_, P> {
+    // memory without base, index and scale, at an offset of the size stated
+    pub(crate) fn absolute(&self, place: Place) -> Result<Offset, Refusal<Offset>>
+        ensures { result ≡ absolute self.now.mode (op_kind_at self.now.instruction.now place) self.now.instruction.now }
+    {
+        if !is_memory(self.instruction.op_kind(place)) {
+            return Err(Refusal::nothing(OperandFault::OpKind));
+        }
+        let memory = &self.instruction.memory;
+        if memory.base.number != 0 || memory.index.number != 0 {
+            return Err(Refusal::nothing(OperandFault::AbsoluteRegisters));
+        }
+        if memory.scale != Scale::By1 {
+            return Err(Refusal::nothing(OperandFault::AbsoluteScale));
+        }
+        let size = self.instruction.memory_displ_size();
+        offset_sized(self.mode, self.instruction.mem_displ, size)
     }
-    if instruction.memory.base.number != 0 || instruction.memory.index.number != 0 {
-        return Err(Refusal::nothing(OperandFault::AbsoluteRegisters));
-    }
-    if instruction.memory.scale as u8 != 0 {
-        return Err(Refusal::nothing(OperandFault::AbsoluteScale));
-    }
-    let size = instruction.memory_displ_size();
-    offset_sized(mode, instruction.mem_displ, size)
 }

@@ -60,10 +60,10 @@ pub(crate) fn address_bytes(mode: Mode, instruction: &Instruction) -> u8
 pub(crate) fn in_range(mode: Mode, range: RegisterRange, register: Register) -> bool
     ensures { result ≡ in_range mode range register.number }
 {
-    let last = if !mode.is64() && range.hi as u16 > range.lo as u16 + 7 {
-        range.lo as u16 + 7
+    let last = if mode.is64() {
+        range.hi
     } else {
-        range.hi as u16
+        range.hi.min(range.lo.saturating_add(7))
     };
-    range.lo <= register.number && register.number as u16 <= last
+    (range.lo..=last).contains(&register.number)
 }

@@ -1,5 +1,5 @@
 ghost use Rattle.std.specs.Prelude.{◌≡◌};
-ghost use Rattle.gather.specs.Gathered.{group_number, group_rm, size_66, size_67, is_64, start_flags, start_parts, mode_fault, start, place_step, in_order, gathered};
+ghost use Rattle.gather.specs.Gathered.{group_number, group_rm, asks_prefix, start_flags, start_parts, mode_fault, start, place_step, in_order, gathered};
 ghost use Rattle.gather.specs.Laws.{OneByteExactlyWhereOneStands};
 
 use super::case::Case;
@@ -32,23 +32,14 @@ fn group_rm(index: i8) -> RmPart
     }
 }
 
-fn size_66(mode: Mode, size: CodeSize) -> bool
-    ensures { result ≡ size_66 mode size }
+// whether a size asks for its prefix: 16 bits outside mode 16, 32 bits where the mode does not take them by itself
+fn asks_prefix(mode: Mode, size: CodeSize, takes32: bool) -> bool
+    ensures { result ≡ asks_prefix mode size takes32 }
 {
     match size {
         CodeSize::Unknown | CodeSize::Code64 => false,
-        CodeSize::Code16 => !matches!(mode, Mode::Bits16),
-        CodeSize::Code32 => matches!(mode, Mode::Bits16),
-    }
-}
-
-fn size_67(mode: Mode, size: CodeSize) -> bool
-    ensures { result ≡ size_67 mode size }
-{
-    match size {
-        CodeSize::Unknown | CodeSize::Code64 => false,
-        CodeSize::Code16 => !matches!(mode, Mode::Bits16),
-        CodeSize::Code32 => !matches!(mode, Mode::Bits32),
+        CodeSize::Code16 => mode != Mode::Bits16,
+        CodeSize::Code32 => !takes32,
     }
 }
 
@@ -56,9 +47,9 @@ fn start_flags(mode: Mode, raw: &RawRecord) -> HeadFlags
     ensures { result ≡ start_flags mode raw.now }
 {
     HeadFlags {
-        p66: size_66(mode, raw.op_size),
-        p67: size_67(mode, raw.addr_size),
-        w: matches!(raw.op_size, CodeSize::Code64) && !raw.enc_flags3.has(Flag::DefaultOpSize64),
+        p66: asks_prefix(mode, raw.op_size, mode != Mode::Bits16),
+        p67: asks_prefix(mode, raw.addr_size, mode == Mode::Bits32),
+        w: raw.op_size == CodeSize::Code64 && !raw.enc_flags3.has(Flag::DefaultOpSize64),
         rex: false,
         high: false,
         broadcast: false,

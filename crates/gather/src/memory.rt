@@ -10,6 +10,7 @@ use super::parts::{Displ, RmPart, Sib};
 use super::refusal::Refusal;
 use fault::OperandFault;
 use instruction::Instruction;
+use machine::Scale;
 use policy::Policy;
 use record::RegisterRange;
 
@@ -237,7 +238,7 @@ impl<P: Policy> Case<'_, P> {
         if memory.index.number != 0 {
             return Err(Refusal::blank(OperandFault::RipIndex));
         }
-        if memory.scale as u8 != 0 {
+        if memory.scale != Scale::By1 {
             return Err(Refusal::blank(OperandFault::RipScale));
         }
         if !self.mode.is64() {

@@ -5,10 +5,9 @@ ghost use Rattle.gather.specs.Cases.{meaning};
 ghost use Rattle.gather.specs.Steps.{mem_sized, memory_step, register_step, offset_step, rm_memory, mem_only, rm_step, told, op_step, put_rm_register};
 ghost use Rattle.gather.specs.Registers.{ranged_register};
 
-use super::absolute::{Offset, absolute};
+use super::absolute::Offset;
 use super::address::address_bytes;
 use super::case::{Case, MemoryForm};
-use super::immediate::{branch_operand, byte_operand, expecting, wide_operand};
 use super::parts::{Imm, Parts, RmPart};
 use super::refusal::Refusal;
 use super::register::{is_memory, is_register};
@@ -137,8 +136,6 @@ impl<P: Policy> Case<'_, P> {
         ensures parts { parts.new ≡ (op_step (P.spread self.now.policy.now) self.now.mode self.now.record.now self.now.instruction.now place op parts.old).parts }
         ensures told { result ≡ told (op_step (P.spread self.now.policy.now) self.now.mode self.now.record.now self.now.instruction.now place op parts.old) }
     {
-        let instruction = self.instruction;
-        let kind = instruction.op_kind(place);
         match op {
             Op::ModRmRm(range) => self.rm_step(place, range, parts)?,
             Op::ModRmRmMemOnly(must_use_sib) => {
@@ -155,22 +152,20 @@ impl<P: Policy> Case<'_, P> {
                 };
                 self.mem_only_step(place, form, parts)?;
             }
-            Op::O => parts.offset_step(absolute(self.mode, kind, instruction))?,
+            Op::O => parts.offset_step(self.absolute(place))?,
             Op::ModRmReg(range) => parts.put_reg(self.register_operand(place, range)?),
             Op::RegEmbed8(range) => parts.put_embedded(self.register_operand(place, range)?),
             Op::Reg(wanted) => self.fixed_told(place, wanted)?,
             Op::Hx(range) => parts.put_vvvv(self.register_operand(place, range)?),
             Op::Ib(expected) => {
-                parts.imm = byte_operand(parts.imm, expected, kind, instruction)?;
+                parts.imm = self.byte_operand(place, expected, parts.imm)?;
             }
             Op::Id(expected) => {
-                parts.imm = expecting(expected, kind, Imm::Size4(instruction.immediate))?;
+                let imm = Imm::Size4(self.instruction.immediate);
+                parts.imm = self.expecting(place, expected, imm)?;
             }
-            Op::Iq => parts.imm = wide_operand(kind, instruction)?,
-            Op::J(expected, size) => {
-                let branch = branch_operand(self.mode, expected, size, kind, instruction)?;
-                parts.put_branch(branch);
-            }
+            Op::Iq => parts.imm = self.wide_operand(place)?,
+            Op::J(expected, size) => parts.put_branch(self.branch_operand(place, expected, size)?),
         }
         Ok(())
     }

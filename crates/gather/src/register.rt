@@ -57,13 +57,13 @@ impl RegPart {
 pub(crate) fn is_register(kind: OpKind) -> bool
     ensures { result ≡ is_register kind }
 {
-    matches!(kind, OpKind::Register)
+    kind == OpKind::Register
 }
 
 pub(crate) fn is_memory(kind: OpKind) -> bool
     ensures { result ≡ is_memory kind }
 {
-    matches!(kind, OpKind::Memory)
+    kind == OpKind::Memory
 }
 
 impl<P: Policy> Case<'_, P> {

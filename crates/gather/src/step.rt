@@ -1,9 +1,9 @@
 ghost use Rattle.std.specs.Prelude.{◌≡◌};
-ghost use Rattle.gather.specs.Steps.{with_rm, with_flags, with_imm, asking, addressing, sizing, put_rm_register, put_reg, put_embedded, put_vvvv, put_offset, put_branch};
+ghost use Rattle.gather.specs.Steps.{with_rm, with_flags, asking, addressing, sizing, put_rm_register, put_reg, put_embedded, put_vvvv, put_offset, put_branch};
 
 use super::absolute::Offset;
 use super::immediate::Branch;
-use super::parts::{HeadFlags, Imm, Parts, RmPart};
+use super::parts::{HeadFlags, Parts, RmPart};
 use super::register::RegPart;
 
 impl HeadFlags {
@@ -36,12 +36,6 @@ impl Parts {
     {
         self.rm = rm;
         self.flags.address(p67, broadcast);
-    }
-
-    pub(crate) fn put_imm(&mut self, imm: Imm)
-        ensures { self.new ≡ with_imm self.old imm }
-    {
-        self.imm = imm;
     }
 
     pub(crate) fn put_rm_register(&mut self, register: RegPart)
