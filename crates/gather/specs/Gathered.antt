@@ -1,5 +1,6 @@
 -- All operands of an instruction, in the order of their places.
 use Rattle.std.specs.Prelude.{ℕ, Bool, true, false, cond, not, ◌&&◌, ℤ, pos, negsuc, Some, None, Ok, Err, Option, Result, ◌==◌}
+use Rattle.std.specs.List.{fold}
 use Rattle.std.specs.Option.{option_or}
 use Rattle.fault.specs.declared.encode.EncodeFault.{EncodeFault}
 use Rattle.fault.specs.declared.encode.EncodeFault.TheVariants.{Operand, Encoding}
@@ -9,7 +10,7 @@ use Rattle.machine.specs.declared.code_size.CodeSize.{CodeSize}
 use Rattle.machine.specs.declared.code_size.CodeSize.TheVariants.{Unknown, Code16, Code32, Code64}
 use Rattle.machine.specs.declared.mode.Mode.{Mode}
 use Rattle.machine.specs.declared.place.Place.{Place}
-use Rattle.machine.specs.declared.place.Place.TheVariants.{Op0, Op1, Op2, Op3, Op4}
+use Rattle.machine.specs.Places.{places}
 use Rattle.instruction.specs.declared.made.Instruction.{Instruction}
 use Rattle.record.specs.declared.flags.Flag.TheVariants as Flags
 use Rattle.record.specs.declared.raw.RawRecord.{RawRecord}
@@ -79,10 +80,9 @@ after_step f at s = record { parts = s.parts; fault = keep_first f at (told s) }
 unfoldable pub place_step : Spread → Mode → Record → Instruction → Place → Gathering → Gathering
 place_step sp m r i at g = elim (op_at r.raw.operands at) [ Some op ↦ after_step g.fault at (op_step sp m r i at op g.parts) | None ↦ g ]
 
--- all places
+-- all places in their order
 abbrev pub in_order : Spread → Mode → Record → Instruction → Gathering
-in_order sp m r i =
-    place_step sp m r i Op4 (place_step sp m r i Op3 (place_step sp m r i Op2 (place_step sp m r i Op1 (place_step sp m r i Op0 (start m r)))))
+in_order sp m r i = fold (λ g at. place_step sp m r i at g) (start m r) places
 
 -- the same, shut: the layers above see the name and its laws
 unfoldable pub gathered : Spread → Mode → Record → Instruction → Gathering

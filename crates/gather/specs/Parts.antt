@@ -17,6 +17,16 @@ blank = plain_part 0 0 Absent
 abbrev pub refusing : {X T : Type 0} → OperandFault → T → Result X (Refusal T)
 refusing f left = Err record { fault = f; left = left }
 
+-- what an operand puts into its part, accepted or refused
+abbrev pub left_of : {T : Type 0} → Result T (Refusal T) → T
+left_of (Ok x) = x
+left_of (Err r) = r.left
+
+-- its refusal
+abbrev pub refusal_of : {T : Type 0} → Result T (Refusal T) → Result (Unit {0}) OperandFault
+refusal_of (Ok x) = Ok tt
+refusal_of (Err r) = Err r.fault
+
 -- a step that refused ends the operand
 abbrev pub then : {X Y T : Type 0} → Result X (Refusal T) → (X → Result Y (Refusal T)) → Result Y (Refusal T)
 then (Ok x) f = f x

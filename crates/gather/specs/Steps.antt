@@ -28,7 +28,7 @@ use Rattle.gather.specs.Address.{address_bytes}
 use Rattle.gather.specs.Immediates.{byte_operand, expecting, wide_operand, branch_operand}
 use Rattle.gather.specs.Memory.{mem}
 use Rattle.gather.specs.Memory16.{mem16}
-use Rattle.gather.specs.Parts.{blank, refusing}
+use Rattle.gather.specs.Parts.{blank, refusing, left_of, refusal_of}
 use Rattle.gather.specs.Registers.{is_register, is_memory, ranged_register, register_operand, rm_register}
 
 -- the parts after an operand, and its refusal where there is one
@@ -49,6 +49,11 @@ done p = record { parts = p; fault = None }
 
 abbrev pub faulty : Parts → OperandFault → Step
 faulty p f = record { parts = p; fault = Some f }
+
+-- the parts as they are, with the refusal of an answer
+abbrev pub stepped : Parts → Result (Unit {0}) OperandFault → Step
+stepped p (Ok u) = done p
+stepped p (Err f) = faulty p f
 
 -- Parts with one component more.
 
@@ -106,8 +111,7 @@ abbrev pub mem_sized : (ℤ → ℤ) → Mode → ℕ → Bool → Option Regist
 mem_sized f m bytes must vsib i = cond (bytes == 2) (cond (is_some vsib) (refusing F.Vsib16 blank) (mem16 f m i)) (mem f m bytes must vsib i)
 
 abbrev pub memory_step : Parts → Bool → Bool → Result RmPart (Refusal RmPart) → Step
-memory_step p p67 broadcast (Ok part) = done (with_flags (with_rm p part) (addressing p.flags p67 broadcast))
-memory_step p p67 broadcast (Err r) = faulty (with_flags (with_rm p r.left) (addressing p.flags p67 broadcast)) r.fault
+memory_step p p67 broadcast a = stepped (with_flags (with_rm p (left_of a)) (addressing p.flags p67 broadcast)) (refusal_of a)
 
 abbrev pub register_step : Parts → (RegPart → Parts) → Result RegPart OperandFault → Step
 register_step p put (Ok r) = done (put r)
@@ -122,8 +126,7 @@ branch_step p (Ok b) = done (put_branch p b)
 branch_step p (Err f) = faulty p f
 
 abbrev pub offset_step : Parts → Result Offset (Refusal Offset) → Step
-offset_step p (Ok o) = done (put_offset p o)
-offset_step p (Err r) = faulty (put_offset p r.left) r.fault
+offset_step p a = stepped (put_offset p (left_of a)) (refusal_of a)
 
 -- what a byte of displacement stands for, by record and broadcast flag
 abbrev pub Spread : Type 0
@@ -146,8 +149,7 @@ abbrev pub fixed_told : ℕ → OpKind → ℕ → Result (Unit {0}) OperandFaul
 fixed_told wanted k n = cond (not (is_register k)) (Err F.OpKind) (cond (wanted == n) (Ok tt) (Err F.FixedRegister))
 
 abbrev pub fixed_step : Parts → Result (Unit {0}) OperandFault → Step
-fixed_step p (Ok u) = done p
-fixed_step p (Err f) = faulty p f
+fixed_step p a = stepped p a
 
 -- one operand
 unfoldable pub op_step : Spread → Mode → Record → Instruction → Place → Op → Parts → Step

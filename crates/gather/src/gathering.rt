@@ -1,5 +1,5 @@
 ghost use Rattle.std.specs.Prelude.{◌≡◌};
-ghost use Rattle.gather.specs.Gathered.{group_number, group_rm, asks_prefix, start_flags, start_parts, mode_fault, start, place_step, in_order, gathered};
+ghost use Rattle.gather.specs.Gathered.{group_number, group_rm, asks_prefix, start_flags, start_parts, mode_fault, start, place_step, gathered};
 ghost use Rattle.gather.specs.Laws.{OneByteExactlyWhereOneStands};
 
 use super::case::Case;
@@ -110,6 +110,7 @@ impl Gathering {
 }
 
 // all operands in the order of their places
+#[tactic(auto, unfolding(crate::specs::Gathered::gathered))]
 pub fn gather<P: Policy>(
     policy: &P,
     mode: Mode,
@@ -125,17 +126,9 @@ pub fn gather<P: Policy>(
         record,
         instruction,
     };
-    in_order(&case)
-}
-
-fn in_order<P: Policy>(case: &Case<P>) -> Gathering
-    ensures { result ≡ in_order (P.spread case.now.policy.now) case.now.mode case.now.record.now case.now.instruction.now }
-{
-    let mut gathering = Gathering::start(case.mode, case.record);
-    gathering.add(case, Place::Op0);
-    gathering.add(case, Place::Op1);
-    gathering.add(case, Place::Op2);
-    gathering.add(case, Place::Op3);
-    gathering.add(case, Place::Op4);
+    let mut gathering = Gathering::start(mode, record);
+    for place in Place::ALL {
+        gathering.add(&case, place);
+    }
     gathering
 }

@@ -2,10 +2,9 @@
 ghost use Rattle.std.specs.Prelude.{◌≡◌, false, None};
 ghost use Rattle.instruction.specs.Getters.{op_kind_at, op_register_at};
 ghost use Rattle.gather.specs.Cases.{meaning};
-ghost use Rattle.gather.specs.Steps.{mem_sized, memory_step, register_step, offset_step, rm_memory, mem_only, rm_step, told, op_step, put_rm_register};
+ghost use Rattle.gather.specs.Steps.{mem_sized, register_step, rm_memory, mem_only, rm_step, told, op_step, put_rm_register};
 ghost use Rattle.gather.specs.Registers.{ranged_register};
 
-use super::absolute::Offset;
 use super::address::address_bytes;
 use super::case::{Case, MemoryForm};
 use super::parts::{Imm, Parts, RmPart};
@@ -15,45 +14,6 @@ use fault::OperandFault;
 use machine::Place;
 use policy::Policy;
 use record::{Op, RegisterRange};
-
-impl Parts {
-    fn memory_step(
-        &mut self,
-        p67: bool,
-        broadcast: bool,
-        part: Result<RmPart, Refusal<RmPart>>,
-    ) -> Result<(), OperandFault>
-        ensures parts { self.new ≡ (memory_step self.old p67 broadcast part).parts }
-        ensures told { result ≡ told (memory_step self.old p67 broadcast part) }
-    {
-        match part {
-            Ok(part) => {
-                self.put_memory(part, p67, broadcast);
-                Ok(())
-            }
-            Err(refusal) => {
-                self.put_memory(refusal.left, p67, broadcast);
-                Err(refusal.fault)
-            }
-        }
-    }
-
-    fn offset_step(&mut self, offset: Result<Offset, Refusal<Offset>>) -> Result<(), OperandFault>
-        ensures parts { self.new ≡ (offset_step self.old offset).parts }
-        ensures told { result ≡ told (offset_step self.old offset) }
-    {
-        match offset {
-            Ok(offset) => {
-                self.put_offset(offset);
-                Ok(())
-            }
-            Err(refusal) => {
-                self.put_offset(refusal.left);
-                Err(refusal.fault)
-            }
-        }
-    }
-}
 
 impl<P: Policy> Case<'_, P> {
     // a memory operand by the size of its address
@@ -77,7 +37,9 @@ impl<P: Policy> Case<'_, P> {
     {
         let bytes = address_bytes(self.mode, self.instruction);
         let p67 = bytes != self.mode.bytes();
-        parts.memory_step(p67, self.broadcasts(), self.mem_sized(bytes, form))
+        let (part, told) = Refusal::parted(self.mem_sized(bytes, form));
+        parts.put_memory(part, p67, self.broadcasts());
+        told
     }
 
     // memory in ModRM.rm and nothing else
@@ -152,7 +114,11 @@ impl<P: Policy> Case<'_, P> {
                 };
                 self.mem_only_step(place, form, parts)?;
             }
-            Op::O => parts.offset_step(self.absolute(place))?,
+            Op::O => {
+                let (offset, told) = Refusal::parted(self.absolute(place));
+                parts.put_offset(offset);
+                told?;
+            }
             Op::ModRmReg(range) => parts.put_reg(self.register_operand(place, range)?),
             Op::RegEmbed8(range) => parts.put_embedded(self.register_operand(place, range)?),
             Op::Reg(wanted) => self.fixed_told(place, wanted)?,
