@@ -113,17 +113,19 @@ mem_sized f m bytes must vsib i = cond (bytes == 2) (cond (is_some vsib) (refusi
 abbrev pub memory_step : Parts → Bool → Bool → Result RmPart (Refusal RmPart) → Step
 memory_step p p67 broadcast a = stepped (with_flags (with_rm p (left_of a)) (addressing p.flags p67 broadcast)) (refusal_of a)
 
+-- what was accepted put into the parts; a refusal leaves them as they are
+abbrev pub taken : {X : Type 0} → Parts → (X → Parts) → Result X OperandFault → Step
+taken p put (Ok x) = done (put x)
+taken p put (Err f) = faulty p f
+
 abbrev pub register_step : Parts → (RegPart → Parts) → Result RegPart OperandFault → Step
-register_step p put (Ok r) = done (put r)
-register_step p put (Err f) = faulty p f
+register_step = taken
 
 abbrev pub imm_step : Parts → Result Imm OperandFault → Step
-imm_step p (Ok x) = done (with_imm p x)
-imm_step p (Err f) = faulty p f
+imm_step p a = taken p (with_imm p) a
 
 abbrev pub branch_step : Parts → Result Branch OperandFault → Step
-branch_step p (Ok b) = done (put_branch p b)
-branch_step p (Err f) = faulty p f
+branch_step p a = taken p (put_branch p) a
 
 abbrev pub offset_step : Parts → Result Offset (Refusal Offset) → Step
 offset_step p a = stepped (put_offset p (left_of a)) (refusal_of a)

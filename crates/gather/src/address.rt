@@ -46,6 +46,7 @@ fn address_chosen(registers: u8, displ: u8, code: u8) -> u8
 }
 
 // the bytes of a memory operand's address: by its registers, else by the displacement's size, else by the code size
+#[tactic(auto, unfolding(crate::specs::Address::address_bytes))]
 pub(crate) fn address_bytes(mode: Mode, instruction: &Instruction) -> u8
     ensures { result ≡ address_bytes mode instruction.now }
 {

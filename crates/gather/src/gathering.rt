@@ -99,7 +99,7 @@ impl Gathering {
     // the operand at a place, where there is one; the first refusal is kept
     #[tactic(auto, unfolding(crate::specs::Gathered::place_step))]
     fn add<P: Policy>(&mut self, case: &Case<P>, place: Place)
-        ensures { self.new ≡ place_step (P.spread case.now.policy.now) case.now.mode case.now.record.now case.now.instruction.now place self.old }
+        ensures { self.new ≡ place_step (P.spread case.now.policy.now) case.now.mode case.now.«record».now case.now.instruction.now place self.old }
     {
         if let Some(op) = case.record.op(place)
             && let Err(fault) = case.op_step(place, op, &mut self.parts)

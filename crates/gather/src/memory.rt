@@ -14,7 +14,8 @@ use machine::Scale;
 use policy::Policy;
 use record::RegisterRange;
 
-// How a displacement goes out: not at all, in one byte, whole, or in a size that the address does not have.
+// How a displacement goes out: not at all, in one byte, whole, or in a size that the address does not have, which is
+// no refusal yet, as the rest of the operand still decides what it leaves.
 #[derive(Clone, Copy)]
 pub enum Out {
     Nothing,

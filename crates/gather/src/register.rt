@@ -12,7 +12,8 @@ use machine::{OpKind, Place, Register};
 use policy::Policy;
 use record::RegisterRange;
 
-// A register operand: its number in its range, and whether a REX prefix has to be there or may not be.
+// A register operand: its number in its range, and whether a REX prefix has to be there or may not be, two flags as
+// HeadFlags collects them. Not by machine's ByteCode, which tells nothing of numbers above the 8-bit bank.
 #[derive(Clone, Copy)]
 pub struct RegPart {
     pub number: u8,
