@@ -279,20 +279,16 @@ impl<P: Policy> Case<'_, P> {
     fn sized_out(&self, bytes: u8, size: u8) -> Result<Out, Refusal<RmPart>>
         ensures { result ≡ sized_out (meaning P.spread self.now) bytes self.now.instruction.now.mem_displ size }
     {
-        if size == 1 {
-            let low = self.instruction.memory_displacement32().cast_signed();
-            return Ok(self.shorten(low).map_or(Out::Full, Out::Byte));
+        match size {
+            1 => {
+                let low = self.instruction.memory_displacement32().cast_signed();
+                Ok(self.shorten(low).map_or(Out::Full, Out::Byte))
+            }
+            _ if size == bytes => Ok(Out::Full),
+            0 if self.instruction.mem_displ == 0 => Ok(Out::Nothing),
+            0 => Err(Refusal::blank(OperandFault::DisplacementNotZero)),
+            _ => Ok(Out::Wrong),
         }
-        if size == bytes {
-            return Ok(Out::Full);
-        }
-        if size != 0 {
-            return Ok(Out::Wrong);
-        }
-        if self.instruction.mem_displ != 0 {
-            return Err(Refusal::blank(OperandFault::DisplacementNotZero));
-        }
-        Ok(Out::Nothing)
     }
 
     // how the displacement goes out over a base of this number in its bank
