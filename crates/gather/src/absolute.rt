@@ -1,14 +1,12 @@
 // Memory at an absolute offset.
 ghost use Rattle.std.specs.Prelude.{◌≡◌};
-ghost use Rattle.instruction.specs.Getters.{op_kind_at};
 ghost use Rattle.gather.specs.Absolute.{offset_blank, offset_2, offset_4, offset_8, offset_sized, absolute};
 
-use super::case::Case;
+use super::case::{Case, Operand};
 use super::parts::Displ;
 use super::refusal::Refusal;
-use super::register::is_memory;
 use fault::OperandFault;
-use machine::{Mode, Place, Scale};
+use machine::{Mode, Scale};
 use policy::Policy;
 
 // An offset to be written, and whether it asks for a 67 prefix.
@@ -99,10 +97,10 @@ fn offset_sized(mode: Mode, displ: u64, size: u8) -> Result<Offset, Refusal<Offs
 
 impl<P: Policy> Case<'_, P> {
     // memory without base, index and scale, at an offset of the size stated
-    pub(crate) fn absolute(&self, place: Place) -> Result<Offset, Refusal<Offset>>
-        ensures { result ≡ absolute self.now.mode (op_kind_at self.now.instruction.now place) self.now.instruction.now }
+    pub(crate) fn absolute(&self, operand: Operand) -> Result<Offset, Refusal<Offset>>
+        ensures { result ≡ absolute self.now.mode operand.kind self.now.instruction.now }
     {
-        if !is_memory(self.instruction.op_kind(place)) {
+        if !operand.is_memory() {
             return Err(Refusal::nothing(OperandFault::OpKind));
         }
         let memory = &self.instruction.memory;

@@ -4,7 +4,7 @@ ghost use Rattle.gather.specs.Steps.{broadcasts};
 ghost use Rattle.gather.specs.Cases.{meaning};
 
 use instruction::Instruction;
-use machine::Mode;
+use machine::{Mode, OpKind, Register};
 use policy::Policy;
 use record::{Flag, Record, RegisterRange};
 
@@ -15,6 +15,13 @@ pub struct Case<'a, P> {
     pub mode: Mode,
     pub record: &'a Record,
     pub instruction: &'a Instruction,
+}
+
+// An operand of the instruction.
+#[derive(Clone, Copy)]
+pub struct Operand {
+    pub kind: OpKind,
+    pub register: Register,
 }
 
 // The memory that a record takes: whether always with a SIB byte, and the vector bank of its index.

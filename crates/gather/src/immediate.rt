@@ -1,13 +1,12 @@
 // Immediate operands and branches.
 ghost use Rattle.std.specs.Prelude.{◌≡◌};
-ghost use Rattle.instruction.specs.Getters.{op_kind_at};
 ghost use Rattle.gather.specs.Immediates.{expecting, byte_operand, wide_operand, branch_of, branch_operand};
 
-use super::case::Case;
+use super::case::{Case, Operand};
 use super::parts::Imm;
 use fault::OperandFault;
 use instruction::Instruction;
-use machine::{Mode, OpKind, Place};
+use machine::{Mode, OpKind};
 use policy::Policy;
 
 // A branch to be written, and whether it asks for a 66 prefix.
@@ -58,61 +57,54 @@ fn branch_of(mode: Mode, kind: OpKind, size: u8, instruction: &Instruction) -> B
     }
 }
 
-impl<P: Policy> Case<'_, P> {
+impl Operand {
     // what an operand gives where its kind is the one expected
-    pub(crate) fn expecting<T: Copy>(
-        &self,
-        place: Place,
-        expected: OpKind,
-        given: T,
-    ) -> Result<T, OperandFault>
-        ensures { result ≡ expecting expected (op_kind_at self.now.instruction.now place) given }
+    pub(crate) fn expecting<T: Copy>(self, expected: OpKind, given: T) -> Result<T, OperandFault>
+        ensures { result ≡ expecting expected self.kind given }
     {
-        if expected == self.instruction.op_kind(place) {
+        if expected == self.kind {
             Ok(given)
         } else {
             Err(OperandFault::OpKind)
         }
     }
+}
 
+impl<P: Policy> Case<'_, P> {
     // an immediate byte, the second where another stands before it
     pub(crate) fn byte_operand(
         &self,
-        place: Place,
+        operand: Operand,
         expected: OpKind,
         before: Imm,
     ) -> Result<Imm, OperandFault>
-        ensures { result ≡ byte_operand before expected (op_kind_at self.now.instruction.now place) self.now.instruction.now }
+        ensures { result ≡ byte_operand before expected operand.kind self.now.instruction.now }
     {
         match before {
             Imm::Size1(first) => {
                 let second = self.instruction.immediate8_2nd();
-                self.expecting(
-                    place,
-                    OpKind::Immediate8Second,
-                    Imm::Size1And1(first, second),
-                )
+                operand.expecting(OpKind::Immediate8Second, Imm::Size1And1(first, second))
             }
-            _ => self.expecting(place, expected, Imm::Size1(self.instruction.immediate8())),
+            _ => operand.expecting(expected, Imm::Size1(self.instruction.immediate8())),
         }
     }
 
-    pub(crate) fn wide_operand(&self, place: Place) -> Result<Imm, OperandFault>
-        ensures { result ≡ wide_operand (op_kind_at self.now.instruction.now place) self.now.instruction.now }
+    pub(crate) fn wide_operand(&self, operand: Operand) -> Result<Imm, OperandFault>
+        ensures { result ≡ wide_operand operand.kind self.now.instruction.now }
     {
         let imm = Imm::Size8(self.instruction.immediate64());
-        self.expecting(place, OpKind::Immediate64, imm)
+        operand.expecting(OpKind::Immediate64, imm)
     }
 
     pub(crate) fn branch_operand(
         &self,
-        place: Place,
+        operand: Operand,
         expected: OpKind,
         size: u8,
     ) -> Result<Branch, OperandFault>
-        ensures { result ≡ branch_operand self.now.mode expected size (op_kind_at self.now.instruction.now place) self.now.instruction.now }
+        ensures { result ≡ branch_operand self.now.mode expected size operand.kind self.now.instruction.now }
     {
         let branch = branch_of(self.mode, expected, size, self.instruction);
-        self.expecting(place, expected, branch)
+        operand.expecting(expected, branch)
     }
 }

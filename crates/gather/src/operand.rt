@@ -1,15 +1,13 @@
 // One operand into the parts.
 ghost use Rattle.std.specs.Prelude.{◌≡◌, false, None};
-ghost use Rattle.instruction.specs.Getters.{op_kind_at, op_register_at};
 ghost use Rattle.gather.specs.Cases.{meaning};
 ghost use Rattle.gather.specs.Steps.{mem_sized, register_step, rm_memory, mem_only, rm_step, told, op_step, put_rm_register};
 ghost use Rattle.gather.specs.Registers.{ranged_register};
 
 use super::address::address_bytes;
-use super::case::{Case, MemoryForm};
+use super::case::{Case, MemoryForm, Operand};
 use super::parts::{Imm, Parts, RmPart};
 use super::refusal::Refusal;
-use super::register::{is_memory, is_register};
 use fault::OperandFault;
 use machine::Place;
 use policy::Policy;
@@ -45,18 +43,17 @@ impl<P: Policy> Case<'_, P> {
     // memory in ModRM.rm and nothing else
     fn mem_only_step(
         &self,
-        place: Place,
+        operand: Operand,
         form: MemoryForm,
         parts: &mut Parts,
     ) -> Result<(), OperandFault>
-        ensures parts { parts.new ≡ (mem_only (op_kind_at self.now.instruction.now place) parts.old (rm_memory (P.spread self.now.policy.now) self.now.mode self.now.record.now self.now.instruction.now form.must_use_sib form.vsib parts.old)).parts }
-        ensures told { result ≡ told (mem_only (op_kind_at self.now.instruction.now place) parts.old (rm_memory (P.spread self.now.policy.now) self.now.mode self.now.record.now self.now.instruction.now form.must_use_sib form.vsib parts.old)) }
+        ensures parts { parts.new ≡ (mem_only operand.kind parts.old (rm_memory (P.spread self.now.policy.now) self.now.mode self.now.record.now self.now.instruction.now form.must_use_sib form.vsib parts.old)).parts }
+        ensures told { result ≡ told (mem_only operand.kind parts.old (rm_memory (P.spread self.now.policy.now) self.now.mode self.now.record.now self.now.instruction.now form.must_use_sib form.vsib parts.old)) }
     {
-        let kind = self.instruction.op_kind(place);
-        if is_register(kind) {
+        if operand.is_register() {
             return Err(OperandFault::RegisterNotAllowed);
         }
-        if !is_memory(kind) {
+        if !operand.is_memory() {
             return Err(OperandFault::NeitherRegisterNorMemory);
         }
         self.rm_memory(form, parts)
@@ -65,19 +62,18 @@ impl<P: Policy> Case<'_, P> {
     // a register of the range, or memory, in ModRM.rm
     fn rm_step(
         &self,
-        place: Place,
+        operand: Operand,
         range: RegisterRange,
         parts: &mut Parts,
     ) -> Result<(), OperandFault>
-        ensures parts { parts.new ≡ (rm_step (op_kind_at self.now.instruction.now place) parts.old (register_step parts.old (put_rm_register parts.old) (ranged_register self.now.mode range (op_register_at self.now.instruction.now place))) (rm_memory (P.spread self.now.policy.now) self.now.mode self.now.record.now self.now.instruction.now false None parts.old)).parts }
-        ensures told { result ≡ told (rm_step (op_kind_at self.now.instruction.now place) parts.old (register_step parts.old (put_rm_register parts.old) (ranged_register self.now.mode range (op_register_at self.now.instruction.now place))) (rm_memory (P.spread self.now.policy.now) self.now.mode self.now.record.now self.now.instruction.now false None parts.old)) }
+        ensures parts { parts.new ≡ (rm_step operand.kind parts.old (register_step parts.old (put_rm_register parts.old) (ranged_register self.now.mode range operand.register.number)) (rm_memory (P.spread self.now.policy.now) self.now.mode self.now.record.now self.now.instruction.now false None parts.old)).parts }
+        ensures told { result ≡ told (rm_step operand.kind parts.old (register_step parts.old (put_rm_register parts.old) (ranged_register self.now.mode range operand.register.number)) (rm_memory (P.spread self.now.policy.now) self.now.mode self.now.record.now self.now.instruction.now false None parts.old)) }
     {
-        let kind = self.instruction.op_kind(place);
-        if is_register(kind) {
-            parts.put_rm_register(self.ranged_register(place, range)?);
+        if operand.is_register() {
+            parts.put_rm_register(self.ranged_register(operand, range)?);
             return Ok(());
         }
-        if !is_memory(kind) {
+        if !operand.is_memory() {
             return Err(OperandFault::NeitherRegisterNorMemory);
         }
         let form = MemoryForm {
@@ -98,40 +94,45 @@ impl<P: Policy> Case<'_, P> {
         ensures parts { parts.new ≡ (op_step (P.spread self.now.policy.now) self.now.mode self.now.record.now self.now.instruction.now place op parts.old).parts }
         ensures told { result ≡ told (op_step (P.spread self.now.policy.now) self.now.mode self.now.record.now self.now.instruction.now place op parts.old) }
     {
+        let operand = Operand {
+            kind: self.instruction.op_kind(place),
+            register: self.instruction.op_register(place),
+        };
         match op {
-            Op::ModRmRm(range) => self.rm_step(place, range, parts)?,
+            Op::ModRmRm(range) => self.rm_step(operand, range, parts)?,
             Op::ModRmRmMemOnly(must_use_sib) => {
                 let form = MemoryForm {
                     must_use_sib,
                     vsib: None,
                 };
-                self.mem_only_step(place, form, parts)?;
+                self.mem_only_step(operand, form, parts)?;
             }
             Op::Vsib(range) => {
                 let form = MemoryForm {
                     must_use_sib: true,
                     vsib: Some(range),
                 };
-                self.mem_only_step(place, form, parts)?;
+                self.mem_only_step(operand, form, parts)?;
             }
             Op::O => {
-                let (offset, told) = Refusal::parted(self.absolute(place));
+                let (offset, told) = Refusal::parted(self.absolute(operand));
                 parts.put_offset(offset);
                 told?;
             }
-            Op::ModRmReg(range) => parts.put_reg(self.register_operand(place, range)?),
-            Op::RegEmbed8(range) => parts.put_embedded(self.register_operand(place, range)?),
-            Op::Reg(wanted) => self.fixed_told(place, wanted)?,
-            Op::Hx(range) => parts.put_vvvv(self.register_operand(place, range)?),
+            Op::ModRmReg(range) => parts.put_reg(self.register_operand(operand, range)?),
+            Op::RegEmbed8(range) => parts.put_embedded(self.register_operand(operand, range)?),
+            Op::Reg(wanted) => operand.fixed_told(wanted)?,
+            Op::Hx(range) => parts.put_vvvv(self.register_operand(operand, range)?),
             Op::Ib(expected) => {
-                parts.imm = self.byte_operand(place, expected, parts.imm)?;
+                parts.imm = self.byte_operand(operand, expected, parts.imm)?;
             }
             Op::Id(expected) => {
-                let imm = Imm::Size4(self.instruction.immediate);
-                parts.imm = self.expecting(place, expected, imm)?;
+                parts.imm = operand.expecting(expected, Imm::Size4(self.instruction.immediate))?;
             }
-            Op::Iq => parts.imm = self.wide_operand(place)?,
-            Op::J(expected, size) => parts.put_branch(self.branch_operand(place, expected, size)?),
+            Op::Iq => parts.imm = self.wide_operand(operand)?,
+            Op::J(expected, size) => {
+                parts.put_branch(self.branch_operand(operand, expected, size)?);
+            }
         }
         Ok(())
     }

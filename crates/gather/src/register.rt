@@ -1,14 +1,13 @@
 // Register operands.
 ghost use Rattle.std.specs.Prelude.{◌≡◌};
-ghost use Rattle.instruction.specs.Getters.{op_kind_at, op_register_at};
 ghost use Rattle.gather.specs.Registers.{reg_part, ranged_register, is_register, is_memory, register_operand, rm_register};
 ghost use Rattle.gather.specs.Steps.{fixed_told};
 
 use super::address::in_range;
-use super::case::Case;
+use super::case::{Case, Operand};
 use super::parts::{Displ, RmPart};
 use fault::OperandFault;
-use machine::{OpKind, Place, Register};
+use machine::{OpKind, Register};
 use policy::Policy;
 use record::RegisterRange;
 
@@ -55,59 +54,60 @@ impl RegPart {
     }
 }
 
-pub(crate) fn is_register(kind: OpKind) -> bool
-    ensures { result ≡ is_register kind }
-{
-    kind == OpKind::Register
-}
+impl Operand {
+    pub(crate) fn is_register(self) -> bool
+        ensures { result ≡ is_register self.kind }
+    {
+        self.kind == OpKind::Register
+    }
 
-pub(crate) fn is_memory(kind: OpKind) -> bool
-    ensures { result ≡ is_memory kind }
-{
-    kind == OpKind::Memory
+    pub(crate) fn is_memory(self) -> bool
+        ensures { result ≡ is_memory self.kind }
+    {
+        self.kind == OpKind::Memory
+    }
+
+    // one register, which no byte carries
+    pub(crate) fn fixed_told(self, wanted: u8) -> Result<(), OperandFault>
+        ensures { result ≡ fixed_told wanted self.kind self.register.number }
+    {
+        if !self.is_register() {
+            return Err(OperandFault::OpKind);
+        }
+        if wanted != self.register.number {
+            return Err(OperandFault::FixedRegister);
+        }
+        Ok(())
+    }
 }
 
 impl<P: Policy> Case<'_, P> {
-    // the register at a place, which has to be one of the range
+    // the register, which has to be one of the range
     pub(crate) fn ranged_register(
         &self,
-        place: Place,
+        operand: Operand,
         range: RegisterRange,
     ) -> Result<RegPart, OperandFault>
-        ensures { result ≡ ranged_register self.now.mode range (op_register_at self.now.instruction.now place) }
+        ensures { result ≡ ranged_register self.now.mode range operand.register.number }
     {
-        let register = self.instruction.op_register(place);
-        if in_range(self.mode, range, register) {
-            Ok(RegPart::new(range, register))
+        if in_range(self.mode, range, operand.register) {
+            Ok(RegPart::new(range, operand.register))
         } else {
             Err(OperandFault::RegisterRange)
         }
     }
 
-    // the operand at a place, which has to be a register of the range
+    // the operand, which has to be a register of the range
     pub(crate) fn register_operand(
         &self,
-        place: Place,
+        operand: Operand,
         range: RegisterRange,
     ) -> Result<RegPart, OperandFault>
-        ensures { result ≡ register_operand self.now.mode range (op_kind_at self.now.instruction.now place) (op_register_at self.now.instruction.now place) }
+        ensures { result ≡ register_operand self.now.mode range operand.kind operand.register.number }
     {
-        if !is_register(self.instruction.op_kind(place)) {
+        if !operand.is_register() {
             return Err(OperandFault::OpKind);
         }
-        self.ranged_register(place, range)
-    }
-
-    // one register, which no byte carries
-    pub(crate) fn fixed_told(&self, place: Place, wanted: u8) -> Result<(), OperandFault>
-        ensures { result ≡ fixed_told wanted (op_kind_at self.now.instruction.now place) (op_register_at self.now.instruction.now place) }
-    {
-        if !is_register(self.instruction.op_kind(place)) {
-            return Err(OperandFault::OpKind);
-        }
-        if wanted != self.instruction.op_register(place).number {
-            return Err(OperandFault::FixedRegister);
-        }
-        Ok(())
+        self.ranged_register(operand, range)
     }
 }
