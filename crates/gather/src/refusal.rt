@@ -1,5 +1,5 @@
 ghost use Rattle.std.specs.Prelude.{◌≡◌};
-ghost use Rattle.gather.specs.Parts.{plain_part, blank, left_of, refusal_of};
+ghost use Rattle.gather.specs.Parts.{plain_part, blank};
 
 use super::parts::{Displ, RmPart};
 use fault::OperandFault;
@@ -24,18 +24,6 @@ impl RmPart {
             v2: 0,
             sib: None,
             displ,
-        }
-    }
-}
-
-impl<T> Refusal<T> {
-    // what goes into the parts, and the refusal where there is one
-    pub(crate) fn parted(answer: Result<T, Refusal<T>>) -> (T, Result<(), OperandFault>)
-        ensures { (result.0 ≡ left_of answer) × (result.1 ≡ refusal_of answer) }
-    {
-        match answer {
-            Ok(put) => (put, Ok(())),
-            Err(Refusal { fault, left }) => (left, Err(fault)),
         }
     }
 }
