@@ -104,7 +104,8 @@ impl Encoded {
     }
 }
 
-// the bytes of an instruction under a record, and their count or the first refusal
+// the bytes of an instruction under a record, and their count or the first refusal; mode and settings are numbers, as
+// those that are none are refused
 #[tactic(auto, unfolding(crate::specs::Encode::encode_of, crate::specs::Encode::steps_of, crate::specs::Encode::line_bytes, crate::specs::Encode::line_fault))]
 pub fn encode<P: Policy>(
     policy: &P,

@@ -1,5 +1,5 @@
 -- The address size of a memory operand, and which registers a mode allows of a range.
-use Rattle.std.specs.Prelude.{ℕ, ◌+◌, Bool, true, false, cond, not, ◌&&◌, ◌||◌, ◌==◌, nat_le, nat_lt}
+use Rattle.std.specs.Prelude.{ℕ, ◌+◌, Bool, cond, not, ◌&&◌, ◌||◌, ◌==◌, nat_le, nat_lt}
 use Rattle.machine.specs.declared.code_size.CodeSize.{CodeSize}
 use Rattle.machine.specs.declared.code_size.CodeSize.TheVariants.{Unknown, Code16, Code32, Code64}
 use Rattle.machine.specs.declared.mode.Mode.{Mode}

@@ -1,5 +1,5 @@
 ghost use Rattle.std.specs.Prelude.{◌≡◌, ◌≤◌};
-ghost use Rattle.gather.specs.Address.{code_bytes, register_bytes, joined_bytes, address_chosen, address_bytes, range_last, in_range};
+ghost use Rattle.gather.specs.Address.{code_bytes, register_bytes, joined_bytes, address_chosen, address_bytes, in_range};
 
 use instruction::Instruction;
 use machine::{CodeSize, Mode, Register};
@@ -16,7 +16,7 @@ fn code_bytes(mode: Mode, size: CodeSize) -> u8
     }
 }
 
-// the bytes of an address that a register is part of, 0 where it tells nothing
+// the bytes of an address that a register is part of, 0 where it tells nothing; no Option, as two of them are added
 fn register_bytes(register: Register) -> u8
     ensures value { result ≡ register_bytes register.number }
     ensures bound { result ≤ 8 }

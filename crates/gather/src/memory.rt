@@ -83,7 +83,7 @@ fn displ_checked(bytes: u8, displ: u64) -> Result<(), Refusal<RmPart>>
     } else {
         (0x1_0000_0000, OperandFault::Displacement32)
     };
-    if displ >= first && displ < 0xFFFF_FFFF_8000_0000 {
+    if (first..0xFFFF_FFFF_8000_0000).contains(&displ) {
         return Err(Refusal::blank(fault));
     }
     Ok(())

@@ -76,7 +76,7 @@ impl<P: Policy> Case<'_, P> {
     {
         let displ = self.instruction.mem_displ;
         let left = RmPart::plain(0, rm, Displ::Absent);
-        if displ > 65535 && displ < 0xFFFF_FFFF_FFFF_8000 {
+        if (0x1_0000..0xFFFF_FFFF_FFFF_8000).contains(&displ) {
             return Err(Refusal {
                 fault: OperandFault::Displacement16,
                 left,

@@ -1,4 +1,4 @@
-// A SIB byte's fields.
+// A SIB byte's fields: whole numbers, which only the writing cuts into bits.
 #[derive(Clone, Copy)]
 pub struct Sib {
     pub scale: u8,

@@ -3,8 +3,8 @@ use super::head::Head;
 use super::op::Operands;
 use machine::CodeSize;
 
-// The fields of a record, whatever their values, so numbers: those of the source's OpCodeHandler, of one head, the two scales of a
-// one-byte displacement, and the operands.
+// The fields of a record, whatever their values, so numbers: those of the source's OpCodeHandler, of one head, the two
+// scales of a one-byte displacement, and the operands.
 #[derive(Clone, Copy)]
 pub struct RawRecord {
     pub head: Head,
