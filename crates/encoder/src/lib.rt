@@ -10,6 +10,6 @@ mod line;
 mod settings;
 
 pub use encoding::{Encoded, encode};
-pub use line::Line;
 pub use instruction::RawSettings;
+pub use line::Line;
 pub use settings::{EvexLig, Settings};

@@ -1,5 +1,5 @@
 -- Numbers make an instruction exactly when each is in its range.
-use Rattle.std.proofs.Common.{◌≡◌, ℕ, Bool, true, false, cond, ◌&&◌, ◌||◌, eqb, leb, is_ok, Some, None, Ok, Option, Result, refl, ◌∙◌}
+use Rattle.std.proofs.Common.{◌≡◌, ℕ, Bool, true, false, cond, ◌&&◌, ◌||◌, eqb, leb, is_ok, Some, None, Ok, Result, refl, ◌∙◌}
 use Rattle.fault.specs.declared.making.MakingFault.{MakingFault}
 use Rattle.machine.specs.CodeSizes.{size_named}
 use Rattle.machine.specs.OpKinds.{kind_named}

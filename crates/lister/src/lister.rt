@@ -69,7 +69,14 @@ impl<W: Write> Lister<W> {
         let raw = asked.instruction(mode, &record.raw.operands)?;
         let instruction = Instruction::new(&raw).map_err(Fault::Making)?;
         let policy = port_policy();
-        let encoded = encode(&policy, RawSettings::default(), mode, self.address, &record, &instruction);
+        let encoded = encode(
+            &policy,
+            RawSettings::default(),
+            mode,
+            self.address,
+            &record,
+            &instruction,
+        );
         encoded.result.map_err(Fault::Encode)?;
         Ok(encoded)
     }

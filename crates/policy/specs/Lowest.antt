@@ -1,6 +1,6 @@
 -- The lowest signed byte that a meaning takes to a displacement.
 use Rattle.std.specs.Ordering.{int_eq}
-use Rattle.std.specs.Prelude.{◌≡◌, ℕ, zero, suc, Bool, true, cond, ◌&&◌, ℤ, pos, negsuc, ◌+ℤ◌, ◌≤ℤ◌, is_some, Some, None, Option, ◌≢◌, int_le}
+use Rattle.std.specs.Prelude.{◌≡◌, ℕ, zero, suc, true, cond, ℤ, pos, negsuc, ◌+ℤ◌, ◌≤ℤ◌, is_some, Some, None, Option, ◌≢◌}
 
 -- v is a signed byte
 abbrev pub SignedByte : ℤ → Type 0

@@ -1,10 +1,9 @@
 -- Each slot of a sound record has at most one owner.
-use Rattle.std.proofs.Common.{◌≡◌, ℕ, ◌+◌, ◌≤◌, Bool, true, cond, leb, List, [], ◌∷◌, ◌++◌, Option, ap, ◌∙◌, arith}
+use Rattle.std.proofs.Common.{◌≡◌, ℕ, ◌+◌, ◌≤◌, Bool, true, cond, leb, ◌∷◌, Option, ap, ◌∙◌, arith}
 use Rattle.std.proofs.lemmas.Bool.Decides.{nat_tests}
 use Rattle.record.specs.declared.class.Class.{Class}
 use Rattle.record.specs.declared.class.Class.TheVariants.{RmSlot, Memory, Broadcastable, Vector, Offset, Embedded, RegSlot, Vvvv}
 use Rattle.record.specs.declared.op.Op.{Op}
-use Rattle.record.specs.declared.op.Operands.{Operands}
 use Rattle.record.specs.declared.sound.Record.{Record}
 use Rattle.record.specs.Classes.{belongs_at, op_places, class_count}
 use Rattle.record.specs.Facts.{owners, is_slot, SlotsOwnedOnce}

@@ -1,5 +1,5 @@
 -- The rules under which a record is sound, each a test of its fields, and the first that is broken.
-use Rattle.std.specs.Prelude.{ℕ, ◌+◌, ◌/◌, ◌%◌, Bool, true, false, cond, not, ◌&&◌, ◌||◌, ℤ, pos, negsuc, is_some, Some, None, Option, ◌==◌, count_ones, drop, zip, int_le, nat_le, nat_lt}
+use Rattle.std.specs.Prelude.{ℕ, ◌/◌, ◌%◌, Bool, true, false, cond, not, ◌&&◌, ◌||◌, ℤ, pos, negsuc, is_some, Some, None, Option, ◌==◌, count_ones, drop, zip, int_le, nat_le, nat_lt}
 use Rattle.machine.specs.declared.code_size.CodeSize.{CodeSize}
 use Rattle.machine.specs.declared.op_kind.OpKind.{OpKind}
 use Rattle.machine.specs.CodeSizes.{size_number}

@@ -1,4 +1,4 @@
-use Rattle.std.proofs.Common.{◌≡◌, ◌≤◌, ◌<◌, ◌^◌, Fits, w8, rules, sym, ◌∙◌, arith}
+use Rattle.std.proofs.Common.{◌≤◌, ◌<◌, ◌^◌, rules, sym, ◌∙◌, arith}
 use Rattle.machine.proofs.Named.{placed, name_back}
 use Rattle.machine.proofs.names.number_of.Goals as goal
 

@@ -1,4 +1,4 @@
-use Rattle.std.proofs.Common.{sym, ap, ◌∙◌}
+use Rattle.std.proofs.Common.{sym, ◌∙◌}
 use Rattle.catalogue.specs.Built.{built_rows}
 use Rattle.catalogue.proofs.Rowed.{row_past, row_sound, built_sound}
 use Rattle.catalogue.proofs.built_in.BuiltInCatalogue.get.Goals as goal

@@ -1,4 +1,3 @@
-use Rattle.std.proofs.Common.{sym}
 use Rattle.machine.specs.Registered.{register_known, register_found, register_back}
 use Rattle.machine.proofs.register.Register.new.Goals as goal
 
