@@ -76,6 +76,7 @@ fn round(policy: &PortPolicy, items: &[Item]) -> u64 {
 fn times(rt: &HostRuntime, policy: &PortPolicy, items: &[Item]) -> io::Result<Vec<u64>> {
     let mut times = Vec::new(rt.alloc());
     let mut sum = 0u64;
+    // a round for each, timed on its own
     for _ in 0..ROUNDS {
         let start = Instant::now(rt)?;
         let bytes = round(policy, items);

@@ -4,7 +4,7 @@ use Rattle.std.specs.Int.Count.{ones}
 use Rattle.std.specs.Prelude.{slice_get}
 use Rattle.std.specs.List.{list_all}
 use Rattle.std.specs.Option.{option_and_then}
-use Rattle.std.proofs.lemmas.Bool.{and_parts}
+use Rattle.std.proofs.lemmas.Bool.{and_parts, not-true}
 use Rattle.std.proofs.lemmas.Bool.Decides.{nat_tests}
 use Rattle.fault.specs.declared.rule.Rule.{Rule}
 use Rattle.record.specs.declared.raw.RawRecord.{RawRecord}
@@ -32,16 +32,12 @@ row_past rows n e = ap (option_and_then (λ r. sound_or_none (record_of r))) e
 abbrev keeps_rules : RawRecord → Bool
 keeps_rules r = not (is_some (broken r))
 
-kept : (b : Bool) → not b ≡ true → b ≡ false
-kept true e = grind arith
-kept false e = refl
-
 all_at : (rows : List RawRecord) (n : ℕ) (r : RawRecord) → list_all keeps_rules rows ≡ true → slice_get rows n ≡ Some r → is_some (broken r) ≡ false
 all_at [] n r e h = grind arith
 all_at (x ∷ xs) zero r e h =
     let same : x ≡ r = cc in
     let here : keeps_rules x ≡ true = (and_parts (keeps_rules x) _ e).0 in
-    kept (is_some (broken r)) (ap keeps_rules (sym same) ∙ here)
+    not-true (is_some (broken r)) (ap keeps_rules (sym same) ∙ here)
 all_at (x ∷ xs) (suc n) r e h = all_at xs n r (and_parts (keeps_rules x) _ e).1 h
 
 -- the ten rows, by computation

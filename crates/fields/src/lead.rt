@@ -1,4 +1,4 @@
-// What stands between prefixes and opcode, in numbers that are not inverted: whether REX is there, R with R' above it, X,
+// What stands between prefixes and opcode, in whole numbers as they are read, not inverted: whether REX is there, R with R' above it, X,
 // B, vvvv with V' above it; of EVEX the opmask, zeroing and b. It ends where the opcode begins.
 #[derive(Clone, Copy)]
 pub struct Lead {

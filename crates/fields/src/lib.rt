@@ -10,5 +10,6 @@ mod prefixes;
 pub use code::Code;
 pub use cut::Cut;
 pub use lead::Lead;
+pub use machine::Sib;
 pub use mod_rm::ModRm;
 pub use prefixes::Prefixes;

@@ -1,6 +1,6 @@
 use machine::Sib;
 
-// ModRM with SIB, and where they end.
+// ModRM with SIB in whole numbers as they are read, and where they end.
 #[derive(Clone, Copy)]
 pub struct ModRm {
     pub end: usize,

@@ -1,6 +1,7 @@
 use machine::Segment;
 
-// What stands first: where it ends, the last segment prefix, whether 67 is there, and the last prefix, 0 for none.
+// What stands first: where it ends, the last segment prefix, whether 67 is there, and the last prefix as a byte, 0 for none,
+// the number that a record has for it.
 #[derive(Clone, Copy)]
 pub struct Prefixes {
     pub end: usize,

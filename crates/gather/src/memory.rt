@@ -52,6 +52,7 @@ fn index_bank(bytes: u8, vsib: Option<RegisterRange>) -> RegisterRange
     vsib.unwrap_or(address_bank(bytes))
 }
 
+// RIP and EIP, by number as the definitions have registers and the bytes of an address
 fn is_rip(number: u8) -> bool
     ensures { result ≡ is_rip number }
 {

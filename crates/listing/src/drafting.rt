@@ -50,7 +50,7 @@ impl Dress {
         ensures { result ≡ dressed_of self decoration }
     {
         match decoration {
-            Decoration::Mask(opmask) if matches!(self.opmask, Opmask::Unmasked) => Some(Dress {
+            Decoration::Mask(opmask) if self.opmask == Opmask::Unmasked => Some(Dress {
                 opmask,
                 ..self
             }),
@@ -63,8 +63,9 @@ impl Dress {
                 ..self
             }),
             Decoration::Sae => Some(Dress { sae: true, ..self }),
-            Decoration::Rounding(rounding) if matches!(self.rounding, RoundingControl::Unstated) =>
-                Some(Dress { rounding, ..self }),
+            Decoration::Rounding(rounding) if self.rounding == RoundingControl::Unstated => Some(
+                Dress { rounding, ..self },
+            ),
             _ => None,
         }
     }

@@ -20,7 +20,7 @@ pub struct Memory {
     pub size: Option<u8>,
 }
 
-// What stands in braces.
+// What stands in braces. Not `EvexFields` of an instruction, though alike, since a line adds to it one by one by a method.
 #[derive(Clone, Copy)]
 pub struct Dress {
     pub opmask: Opmask,

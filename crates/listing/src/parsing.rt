@@ -38,6 +38,7 @@ impl Line {
     pub fn parse(line: &[u8]) -> Result<Option<Line>, ListingFault> {
         let mut draft = Draft::new();
         let mut rest = line;
+        // what a thing takes decides where the next begins
         loop {
             rest = after_blanks(rest);
             draft.column = line.len() - rest.len() + 1;

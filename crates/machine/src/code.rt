@@ -1,7 +1,8 @@
 ghost use Rattle.std.specs.Prelude.{◌≡◌, ℕ, Some, Option};
 
 // A type whose values have numbers: the number of a value and the value of a number, each the other's way back. A trait
-// of its own, since From and TryFrom have no law that joins the two; its tables are one jump, and a search is not.
+// of its own, since From and TryFrom have no law that joins the two. Each has its table: a search through a list of
+// the values would ask for that list of every type that is a Code.
 pub trait Code {
     ghost code: { Self → ℕ };
 

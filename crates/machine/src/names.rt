@@ -1,7 +1,7 @@
 ghost use Rattle.std.specs.Prelude.{◌≡◌, ◌≤◌, [], Option, slice_index_or, bytes_eq, position};
 ghost use Rattle.machine.specs.Names.{names, same_name, name_register};
 
-// Five places each, filled up with zeros: case lines and listings state a name by its places.
+// Five places each, filled up with zeros: rows and listings state a name by its places.
 static NAMES: [[u8; 5]; 181] = [
     *b"none\0",
     *b"AL\0\0\0",

@@ -120,14 +120,7 @@ impl fmt::Display for OpText {
 
 impl<'a> fmt::Display for OperandsText<'a> {
     fn fmt<W: fmt::Write>(&self, f: &mut fmt::Formatter<W>) -> fmt::Result {
-        let Operands {
-            op0,
-            op1,
-            op2,
-            op3,
-            op4,
-        } = *self.0;
-        let places = [op0, op1, op2, op3, op4];
+        let places = self.0.places();
         let shown = places
             .iter()
             .rposition(|place| place.is_some())

@@ -2,15 +2,15 @@ ghost use Rattle.std.specs.Prelude.{◌≡◌};
 ghost use Rattle.record.specs.Rules.{is_legacy, is_evex};
 
 // What stands before the opcode of a legacy record: bytes, whatever their values.
-#[derive(Clone, Copy)]
+#[derive(Clone, Copy, Default)]
 pub struct LegacyHead {
     pub table_byte1: u8,
     pub table_byte2: u8,
     pub mandatory_prefix: u8,
 }
 
-// The fixed bits of a VEX prefix, and which of them the settings may change.
-#[derive(Clone, Copy)]
+// The fixed bits of a VEX prefix, and which of them the settings may change: numbers, whatever their values.
+#[derive(Clone, Copy, Default)]
 pub struct VexHead {
     pub table: u8,
     pub last_byte: u8,
@@ -19,8 +19,8 @@ pub struct VexHead {
     pub w1: bool,
 }
 
-// The fixed bits of an EVEX prefix, and which of them the settings may change.
-#[derive(Clone, Copy)]
+// The fixed bits of an EVEX prefix, and which of them the settings may change: numbers, whatever their values.
+#[derive(Clone, Copy, Default)]
 pub struct EvexHead {
     pub table: u8,
     pub p1_bits: u8,

@@ -1,7 +1,7 @@
 use instruction::{RawInstruction, RawSettings};
 use record::RawRecord;
 
-// One case: where and how a record's instruction is to be encoded.
+// One case: where and how a record's instruction is to be encoded. The mode is a number, whatever its value.
 #[derive(Clone, Copy)]
 pub struct Case {
     pub mode: u64,

@@ -15,11 +15,11 @@ impl Numbers {
         ensures { result ≡ settings_of self.now }
     {
         RawSettings {
-            prevent_vex2: self.byte(2),
-            vex_wig: self.byte(3),
-            vex_lig: self.byte(4),
-            evex_wig: self.byte(5),
-            evex_lig: self.byte(6),
+            prevent_vex2: self.at(2).byte(),
+            vex_wig: self.at(3).byte(),
+            vex_lig: self.at(4).byte(),
+            evex_wig: self.at(5).byte(),
+            evex_lig: self.at(6).byte(),
         }
     }
 
@@ -27,9 +27,9 @@ impl Numbers {
         ensures { result ≡ legacy_of self.now }
     {
         LegacyHead {
-            table_byte1: self.byte(17),
-            table_byte2: self.byte(18),
-            mandatory_prefix: self.byte(19),
+            table_byte1: self.at(17).byte(),
+            table_byte2: self.at(18).byte(),
+            mandatory_prefix: self.at(19).byte(),
         }
     }
 
@@ -37,11 +37,11 @@ impl Numbers {
         ensures { result ≡ vex_of self.now }
     {
         VexHead {
-            table: self.byte(17),
-            last_byte: self.byte(18),
-            mask_w_l: self.byte(19),
-            mask_l: self.byte(20),
-            w1: self.flag(21),
+            table: self.at(17).byte(),
+            last_byte: self.at(18).byte(),
+            mask_w_l: self.at(19).byte(),
+            mask_l: self.at(20).byte(),
+            w1: self.at(21).flag(),
         }
     }
 
@@ -49,18 +49,18 @@ impl Numbers {
         ensures { result ≡ evex_of self.now }
     {
         EvexHead {
-            table: self.byte(17),
-            p1_bits: self.byte(18),
-            ll_bits: self.byte(19),
-            mask_w: self.byte(20),
-            mask_ll: self.byte(21),
+            table: self.at(17).byte(),
+            p1_bits: self.at(18).byte(),
+            ll_bits: self.at(19).byte(),
+            mask_w: self.at(20).byte(),
+            mask_ll: self.at(21).byte(),
         }
     }
 
     fn head(&self) -> Head
         ensures { result ≡ head_of self.now }
     {
-        match self.long(7) {
+        match self.at(7).long() {
             0 => Head::Legacy(self.legacy()),
             1 => Head::Vex(self.vex()),
             _ => Head::Evex(self.evex()),
@@ -73,8 +73,8 @@ impl Numbers {
         ensures { result ≡ range_of self.now place }
     {
         RegisterRange {
-            lo: self.byte(place),
-            hi: self.byte(place + 1),
+            lo: self.at(place).byte(),
+            hi: self.at(place + 1).byte(),
         }
     }
 
@@ -83,19 +83,19 @@ impl Numbers {
         requires { place ≤ 58 }
         ensures { result ≡ operand_of self.now place }
     {
-        match self.long(place) {
+        match self.at(place).long() {
             1 => Some(Op::ModRmRm(self.range(place + 1))),
-            2 => Some(Op::ModRmRmMemOnly(self.flag(place + 1))),
+            2 => Some(Op::ModRmRmMemOnly(self.at(place + 1).flag())),
             3 => Some(Op::Vsib(self.range(place + 1))),
             4 => Some(Op::O),
             5 => Some(Op::ModRmReg(self.range(place + 1))),
             6 => Some(Op::RegEmbed8(self.range(place + 1))),
-            7 => Some(Op::Reg(self.byte(place + 1))),
+            7 => Some(Op::Reg(self.at(place + 1).byte())),
             8 => Some(Op::Hx(self.range(place + 1))),
-            9 => Some(Op::Ib(self.kind(place + 1))),
-            10 => Some(Op::Id(self.kind(place + 1))),
+            9 => Some(Op::Ib(self.at(place + 1).kind())),
+            10 => Some(Op::Id(self.at(place + 1).kind())),
             11 => Some(Op::Iq),
-            12 => Some(Op::J(self.kind(place + 1), self.byte(place + 2))),
+            12 => Some(Op::J(self.at(place + 1).kind(), self.at(place + 2).byte())),
             _ => None,
         }
     }
@@ -117,17 +117,17 @@ impl Numbers {
     {
         RawRecord {
             head: self.head(),
-            op_code: self.word(8),
-            group_index: self.small(9),
-            rm_group_index: self.small(10),
+            op_code: self.at(8).word(),
+            group_index: self.at(9).small(),
+            rm_group_index: self.at(10).small(),
             enc_flags3: EncFlags3 {
-                bits: self.word(11),
+                bits: self.at(11).word(),
             },
-            op_size: self.code_size(12),
-            addr_size: self.code_size(13),
-            is_2byte_opcode: self.flag(14),
-            n: self.byte(15),
-            nb: self.byte(16),
+            op_size: self.at(12).code_size(),
+            addr_size: self.at(13).code_size(),
+            is_2byte_opcode: self.at(14).flag(),
+            n: self.at(15).byte(),
+            nb: self.at(16).byte(),
             operands: self.operands(),
         }
     }
@@ -136,30 +136,30 @@ impl Numbers {
         ensures { result ≡ instruction_of self.now }
     {
         RawInstruction {
-            code_size: self.byte(37),
-            segment: self.byte(38),
-            lock: self.flag(39),
-            repe: self.flag(40),
-            repne: self.flag(41),
-            base: self.byte(42),
-            index: self.byte(43),
-            scale: self.byte(44),
-            displ_size: self.byte(45),
-            mem_displ: self.long(46),
-            immediate: self.word(47),
-            kind0: self.byte(48),
-            kind1: self.byte(49),
-            kind2: self.byte(50),
-            kind3: self.byte(51),
-            reg0: self.byte(52),
-            reg1: self.byte(53),
-            reg2: self.byte(54),
-            reg3: self.byte(55),
-            opmask: self.byte(56),
-            zeroing: self.flag(57),
-            broadcast: self.flag(58),
-            sae: self.flag(59),
-            rounding: self.byte(60),
+            code_size: self.at(37).byte(),
+            segment: self.at(38).byte(),
+            lock: self.at(39).flag(),
+            repe: self.at(40).flag(),
+            repne: self.at(41).flag(),
+            base: self.at(42).byte(),
+            index: self.at(43).byte(),
+            scale: self.at(44).byte(),
+            displ_size: self.at(45).byte(),
+            mem_displ: self.at(46).long(),
+            immediate: self.at(47).word(),
+            kind0: self.at(48).byte(),
+            kind1: self.at(49).byte(),
+            kind2: self.at(50).byte(),
+            kind3: self.at(51).byte(),
+            reg0: self.at(52).byte(),
+            reg1: self.at(53).byte(),
+            reg2: self.at(54).byte(),
+            reg3: self.at(55).byte(),
+            opmask: self.at(56).byte(),
+            zeroing: self.at(57).flag(),
+            broadcast: self.at(58).flag(),
+            sae: self.at(59).flag(),
+            rounding: self.at(60).byte(),
         }
     }
 }
@@ -170,8 +170,8 @@ impl Case {
         ensures { result ≡ case_of numbers.now }
     {
         Case {
-            mode: numbers.long(0),
-            rip: numbers.long(1),
+            mode: numbers.at(0).long(),
+            rip: numbers.at(1).long(),
             settings: numbers.settings(),
             record: numbers.raw_record(),
             instruction: numbers.raw_instruction(),

@@ -9,22 +9,23 @@ use super::values::{bits_word, byte_word};
 use super::word::Word;
 use machine::CodeSize;
 use numerals::Radix;
+use record::Flag;
 
 // the bit of a flag's word
 fn flag_weight(word: &[u8]) -> Option<u32>
     ensures { result ≡ flag_weight word.now }
 {
     match word {
-        b"default64" => Some(0x1000),
-        b"fwait" => Some(0x8000),
-        b"m16_32" => Some(0x1_0000),
-        b"m64" => Some(0x2_0000),
-        b"bcst" => Some(0x400_0000),
-        b"round" => Some(0x800_0000),
-        b"sae" => Some(0x1000_0000),
-        b"mask" => Some(0x2000_0000),
-        b"zero" => Some(0x4000_0000),
-        b"mask_required" => Some(0x8000_0000),
+        b"default64" => Some(Flag::DefaultOpSize64 as u32),
+        b"fwait" => Some(Flag::Fwait as u32),
+        b"m16_32" => Some(Flag::Bit16Or32 as u32),
+        b"m64" => Some(Flag::Bit64 as u32),
+        b"bcst" => Some(Flag::Broadcast as u32),
+        b"round" => Some(Flag::RoundingControl as u32),
+        b"sae" => Some(Flag::SuppressAllExceptions as u32),
+        b"mask" => Some(Flag::OpMaskRegister as u32),
+        b"zero" => Some(Flag::ZeroingMasking as u32),
+        b"mask_required" => Some(Flag::RequireOpMaskRegister as u32),
         _ => None,
     }
 }

@@ -14,25 +14,9 @@ pub(crate) fn head_named(word: &[u8]) -> Option<Head>
     ensures { result ≡ head_named word.now }
 {
     match word {
-        b"legacy" => Some(Head::Legacy(LegacyHead {
-            table_byte1: 0,
-            table_byte2: 0,
-            mandatory_prefix: 0,
-        })),
-        b"vex" => Some(Head::Vex(VexHead {
-            table: 0,
-            last_byte: 0,
-            mask_w_l: 0,
-            mask_l: 0,
-            w1: false,
-        })),
-        b"evex" => Some(Head::Evex(EvexHead {
-            table: 0,
-            p1_bits: 0,
-            ll_bits: 0,
-            mask_w: 0,
-            mask_ll: 0,
-        })),
+        b"legacy" => Some(Head::Legacy(LegacyHead::default())),
+        b"vex" => Some(Head::Vex(VexHead::default())),
+        b"evex" => Some(Head::Evex(EvexHead::default())),
         _ => None,
     }
 }

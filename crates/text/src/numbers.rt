@@ -9,9 +9,9 @@ use super::case_fault::CaseFault;
 use super::values::signed;
 use machine::{Code, CodeSize, OpKind};
 
-// A number as it is written, below 2^64 with a sign.
+// A number as it is written, below 2^64 with a sign. A type of its own: of a bare i128 the proof of `read` stayed open.
 #[derive(Clone, Copy)]
-struct Number(i128);
+pub(crate) struct Number(pub(crate) i128);
 
 // All numbers of a line.
 #[derive(Clone, Copy)]
@@ -104,59 +104,62 @@ impl Numbers {
         Ok(Numbers { all })
     }
 
-    // the number of a place as a byte, 255 where none fits
-    pub(crate) fn byte(&self, place: usize) -> u8
+    // the number of a place
+    pub(crate) fn at(&self, place: usize) -> Number
         requires { place < 61 }
-        ensures { result ≡ byte_of (nth self.now place) }
+        ensures { result.0 ≡ nth self.now place }
     {
-        u8::try_from(self.all[place].0).unwrap_or(u8::MAX)
+        self.all[place]
+    }
+}
+
+impl Number {
+    // as a byte, 255 where none fits
+    pub(crate) fn byte(self) -> u8
+        ensures { result ≡ byte_of self.0 }
+    {
+        u8::try_from(self.0).unwrap_or(u8::MAX)
     }
 
-    // the number of a place as 32 bits, the largest where they do not fit
-    pub(crate) fn word(&self, place: usize) -> u32
-        requires { place < 61 }
-        ensures { result ≡ word_of (nth self.now place) }
+    // as 32 bits, the largest where they do not fit
+    pub(crate) fn word(self) -> u32
+        ensures { result ≡ word_of self.0 }
     {
-        u32::try_from(self.all[place].0).unwrap_or(u32::MAX)
+        u32::try_from(self.0).unwrap_or(u32::MAX)
     }
 
-    // the number of a place as 64 bits, the largest where they do not fit
-    pub(crate) fn long(&self, place: usize) -> u64
-        requires { place < 61 }
-        ensures { result ≡ long_of (nth self.now place) }
+    // as 64 bits, the largest where they do not fit
+    pub(crate) fn long(self) -> u64
+        ensures { result ≡ long_of self.0 }
     {
-        u64::try_from(self.all[place].0).unwrap_or(u64::MAX)
+        u64::try_from(self.0).unwrap_or(u64::MAX)
     }
 
-    // the number of a place as a signed byte, 127 where none fits
-    pub(crate) fn small(&self, place: usize) -> i8
-        requires { place < 61 }
-        ensures { result ≡ small_of (nth self.now place) }
+    // as a signed byte, 127 where none fits
+    pub(crate) fn small(self) -> i8
+        ensures { result ≡ small_of self.0 }
     {
-        i8::try_from(self.all[place].0).unwrap_or(i8::MAX)
+        i8::try_from(self.0).unwrap_or(i8::MAX)
     }
 
-    // the number of a place as a flag
-    pub(crate) fn flag(&self, place: usize) -> bool
-        requires { place < 61 }
-        ensures { result ≡ flag_of (nth self.now place) }
+    // as a flag
+    pub(crate) fn flag(self) -> bool
+        ensures { result ≡ flag_of self.0 }
     {
-        self.all[place].0 != 0
+        self.0 != 0
     }
 
-    // the number of a place as an operand kind, Register where it is none
-    pub(crate) fn kind(&self, place: usize) -> OpKind
-        requires { place < 61 }
-        ensures { result ≡ kind_of (nth self.now place) }
+    // as an operand kind, Register where it is none
+    pub(crate) fn kind(self) -> OpKind
+        ensures { result ≡ kind_of self.0 }
     {
-        OpKind::from_number(self.byte(place)).unwrap_or(OpKind::Register)
+        OpKind::from_number(self.byte()).unwrap_or(OpKind::Register)
     }
 
-    // the number of a place as a width, Unknown where it is none
-    pub(crate) fn code_size(&self, place: usize) -> CodeSize
-        requires { place < 61 }
-        ensures { result ≡ code_size_of (nth self.now place) }
+    // as a width, Unknown where it is none
+    pub(crate) fn code_size(self) -> CodeSize
+        ensures { result ≡ code_size_of self.0 }
     {
-        CodeSize::from_number(self.byte(place)).unwrap_or(CodeSize::Unknown)
+        CodeSize::from_number(self.byte()).unwrap_or(CodeSize::Unknown)
     }
 }

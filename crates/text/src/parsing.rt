@@ -19,11 +19,7 @@ impl Draft {
             section: Section::Name,
             words: 0,
             name: Span { from: 0, to: 0 },
-            head: Head::Legacy(LegacyHead {
-                table_byte1: 0,
-                table_byte2: 0,
-                mandatory_prefix: 0,
-            }),
+            head: Head::Legacy(LegacyHead::default()),
             code: CodePart {
                 op_code: 0,
                 is_2byte: false,

@@ -25,7 +25,7 @@ impl RawRecord {
         ensures { result ≡ sets_w self.now }
     {
         self.head.is_legacy()
-            && matches!(self.op_size, CodeSize::Code64)
+            && self.op_size == CodeSize::Code64
             && !self.enc_flags3.has(Flag::DefaultOpSize64)
     }
 
