@@ -99,7 +99,7 @@ impl Line {
         !target.reaches(1 << (8 * size - 1), distance)
     }
 
-    // the displacement, and whether its RIP target is out of reach
+    // the displacement, and whether its RIP target is out of reach: no refusal yet, as the caller puts them in order
     #[tactic(auto, unfolding(crate::specs::Encode::displ_bytes_onto, crate::specs::Encode::rip_far, crate::specs::Fields::displ_onto))]
     pub(crate) fn push_displacement(&mut self, address: u64, parts: &Parts) -> bool
         requires { self.old.count ≤ 15 }
@@ -125,7 +125,7 @@ impl Line {
         false
     }
 
-    // the immediate, and whether its branch target is out of reach
+    // the immediate, and whether its branch target is out of reach: no refusal yet, as the caller puts them in order
     #[tactic(auto, unfolding(crate::specs::Encode::imm_bytes_onto, crate::specs::Encode::branch_far, crate::specs::Fields::imm_onto))]
     pub(crate) fn push_immediate(&mut self, address: u64, parts: &Parts) -> bool
         requires { self.old.count ≤ 23 }

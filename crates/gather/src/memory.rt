@@ -146,6 +146,7 @@ impl Address {
         Address {
             base: bank_number(address_bank(bytes), instruction.memory.base.number),
             index: bank_number(index_bank(bytes, vsib), number),
+            // ESP and RSP, by number as the definitions have registers
             stack: number == 41 || number == 57,
             scale: instruction.memory.scale as u8,
             displ: instruction.mem_displ,

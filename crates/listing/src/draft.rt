@@ -1,7 +1,7 @@
 use super::line::{Asked, Line};
 use machine::{Register, Segment};
 
-// What may come next on a line.
+// What may come next on a line: a state that each thing moves on.
 #[derive(Clone, Copy)]
 pub(crate) enum Stage {
     First,

@@ -2,7 +2,7 @@ use super::code_part::{CodePart, FlagPart};
 use super::row::Span;
 use record::{Head, Op};
 
-// Which part of a row a word stands in.
+// Which part of a row a word stands in: a state that the words move on.
 #[derive(Clone, Copy)]
 pub(crate) enum Section {
     Name,

@@ -13,7 +13,7 @@ use machine::{Code, CodeSize, OpKind};
 #[derive(Clone, Copy)]
 pub(crate) struct Number(pub(crate) i128);
 
-// All numbers of a line.
+// All numbers of a line, as many as every line has.
 #[derive(Clone, Copy)]
 pub(crate) struct Numbers {
     all: [Number; 61],

@@ -1,6 +1,6 @@
 use record::RawRecord;
 
-// A part of a line: the place where it begins and the place after it.
+// A part of a line: the place where it begins and the place after it, as a row does not hold its line.
 #[derive(Clone, Copy)]
 pub struct Span {
     pub from: usize,

@@ -16,7 +16,7 @@ pub enum Wanted {
     Bar,
 }
 
-// What is wrong with a row: what was expected, at a column counted from 1.
+// What is wrong with a row: what was expected of the words that a row has, at a column counted from 1.
 #[derive(Clone, Copy)]
 pub struct RowFault {
     pub column: usize,
