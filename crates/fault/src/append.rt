@@ -31,8 +31,8 @@ impl From<SheetFault> for AppendFault {
 impl fmt::Display for AppendFault {
     fn fmt<W: fmt::Write>(&self, f: &mut fmt::Formatter<W>) -> fmt::Result {
         match self {
-            AppendFault::Sheet(fault) => write!(f, "{fault}"),
-            AppendFault::Encode(fault) => write!(f, "{fault}"),
+            Self::Sheet(fault) => write!(f, "{fault}"),
+            Self::Encode(fault) => write!(f, "{fault}"),
         }
     }
 }

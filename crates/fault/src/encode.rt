@@ -24,11 +24,11 @@ impl From<EncodingFault> for EncodeFault {
 impl fmt::Display for EncodeFault {
     fn fmt<W: fmt::Write>(&self, f: &mut fmt::Formatter<W>) -> fmt::Result {
         match self {
-            EncodeFault::Operand(place, fault) => {
+            Self::Operand(place, fault) => {
                 let place = place.number();
                 write!(f, "operand {place}: {fault}")
             }
-            EncodeFault::Encoding(fault) => write!(f, "{fault}"),
+            Self::Encoding(fault) => write!(f, "{fault}"),
         }
     }
 }

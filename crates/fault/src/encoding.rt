@@ -25,33 +25,29 @@ pub enum EncodingFault {
 impl fmt::Display for EncodingFault {
     fn fmt<W: fmt::Write>(&self, f: &mut fmt::Formatter<W>) -> fmt::Result {
         f.write_str(match self {
-            EncodingFault::Only1632 => "the record is for modes 16 and 32 only",
-            EncodingFault::Only64 => "the record is for mode 64 only",
-            EncodingFault::HighByteWithRex =>
+            Self::Only1632 => "the record is for modes 16 and 32 only",
+            Self::Only64 => "the record is for mode 64 only",
+            Self::HighByteWithRex =>
                 "AH, CH, DH or BH is used together with something that needs a REX prefix",
-            EncodingFault::OpmaskNotAllowed =>
-                "an opmask register is used and the record allows none",
-            EncodingFault::OpmaskRequired =>
-                "no opmask register is used and the record requires one",
-            EncodingFault::SaeNotAllowed =>
+            Self::OpmaskNotAllowed => "an opmask register is used and the record allows none",
+            Self::OpmaskRequired => "no opmask register is used and the record requires one",
+            Self::SaeNotAllowed =>
                 "suppress-all-exceptions is asked and the record does not have it",
-            EncodingFault::RoundingNotAllowed =>
-                "rounding control is asked and the record does not have it",
-            EncodingFault::BroadcastNotAllowed =>
+            Self::RoundingNotAllowed => "rounding control is asked and the record does not have it",
+            Self::BroadcastNotAllowed =>
                 "broadcast is asked and the record or operand does not have it",
-            EncodingFault::ZeroingNotAllowed => "zeroing is asked and the record does not have it",
-            EncodingFault::RipDistance =>
+            Self::ZeroingNotAllowed => "zeroing is asked and the record does not have it",
+            Self::RipDistance =>
                 "the RIP relative target is farther away than 32 signed bits reach",
-            EncodingFault::BranchDistance =>
+            Self::BranchDistance =>
                 "the branch target is farther away than its displacement reaches",
-            EncodingFault::TooLong => "the instruction is longer than fifteen bytes",
-            EncodingFault::VsibWithoutIndex =>
+            Self::TooLong => "the instruction is longer than fifteen bytes",
+            Self::VsibWithoutIndex =>
                 "an address with a vector index has a base and no index; its bytes would read as index register 4",
-            EncodingFault::MemoryWithRounding =>
+            Self::MemoryWithRounding =>
                 "a memory operand is used with suppress-all-exceptions or rounding; its bytes would read as broadcast",
-            EncodingFault::Setting =>
-                "a setting is outside its range: 0 or 1, and 0 to 3 for evex_lig",
-            EncodingFault::Mode => "the mode is not 16, 32 or 64",
+            Self::Setting => "a setting is outside its range: 0 or 1, and 0 to 3 for evex_lig",
+            Self::Mode => "the mode is not 16, 32 or 64",
         })
     }
 }

@@ -112,10 +112,10 @@ impl Rule {
 impl fmt::Display for Fault {
     fn fmt<W: fmt::Write>(&self, f: &mut fmt::Formatter<W>) -> fmt::Result {
         match self {
-            Fault::Making(fault) => write!(f, "{fault}")?,
-            Fault::Encode(fault) => write!(f, "{fault}")?,
-            Fault::Append(fault) => write!(f, "{fault}")?,
-            Fault::Read(fault) => write!(f, "{fault}")?,
+            Self::Making(fault) => write!(f, "{fault}")?,
+            Self::Encode(fault) => write!(f, "{fault}")?,
+            Self::Append(fault) => write!(f, "{fault}")?,
+            Self::Read(fault) => write!(f, "{fault}")?,
         }
         let FaultCode { number, layer, .. } = self.code();
         write!(f, " (refusal {number}, layer {layer})")

@@ -40,57 +40,50 @@ pub enum OperandFault {
 impl fmt::Display for OperandFault {
     fn fmt<W: fmt::Write>(&self, f: &mut fmt::Formatter<W>) -> fmt::Result {
         f.write_str(match self {
-            OperandFault::OpKind => "the operand's kind is not the kind that the record expects",
-            OperandFault::FixedRegister =>
-                "the register is not the one register that the record allows",
-            OperandFault::RegisterRange =>
+            Self::OpKind => "the operand's kind is not the kind that the record expects",
+            Self::FixedRegister => "the register is not the one register that the record allows",
+            Self::RegisterRange =>
                 "the register is outside the range that the record, mode and address size allow",
-            OperandFault::RegisterNotAllowed => "a register stands where the record wants memory",
-            OperandFault::NeitherRegisterNorMemory =>
-                "the operand is neither a register nor memory",
-            OperandFault::AbsoluteRegisters =>
+            Self::RegisterNotAllowed => "a register stands where the record wants memory",
+            Self::NeitherRegisterNorMemory => "the operand is neither a register nor memory",
+            Self::AbsoluteRegisters =>
                 "an absolute address has a base or an index; it may have neither",
-            OperandFault::AbsoluteScale => "an absolute address has a scale; it has to be 1",
-            OperandFault::Absolute16In64 =>
+            Self::AbsoluteScale => "an absolute address has a scale; it has to be 1",
+            Self::Absolute16In64 =>
                 "a 16-bit absolute address is used in mode 64; 32 or 64 bits are expected",
-            OperandFault::DisplacementU16 =>
+            Self::DisplacementU16 =>
                 "the displacement of a 16-bit address without base does not fit in 16 unsigned bits",
-            OperandFault::DisplacementU32 =>
+            Self::DisplacementU32 =>
                 "the displacement of a 32-bit absolute address does not fit in 32 unsigned bits",
-            OperandFault::Absolute64Outside64 =>
-                "a 64-bit absolute address is used outside mode 64",
-            OperandFault::AbsoluteSize =>
-                "the displacement size of an absolute address is not 2, 4 or 8",
-            OperandFault::Vsib16 =>
+            Self::Absolute64Outside64 => "a 64-bit absolute address is used outside mode 64",
+            Self::AbsoluteSize => "the displacement size of an absolute address is not 2, 4 or 8",
+            Self::Vsib16 =>
                 "a vector index is used with 16-bit addressing; 32 or 64 bits are expected",
-            OperandFault::Address16In64 => "16-bit addressing is used in mode 64",
-            OperandFault::Registers16 =>
+            Self::Address16In64 => "16-bit addressing is used in mode 64",
+            Self::Registers16 =>
                 "the base and index are no pair of 16-bit addressing: BX or BP, with SI or DI or alone, or SI or DI alone",
-            OperandFault::Displacement16 =>
+            Self::Displacement16 =>
                 "the displacement of a 16-bit address does not fit in 16 bits, signed or unsigned",
-            OperandFault::DisplacementNotZero =>
-                "the displacement size is 0 and the displacement is not",
-            OperandFault::DisplacementI8 => "the displacement does not fit in a signed byte",
-            OperandFault::Size16 => "the displacement size of a 16-bit address is not 0, 1 or 2",
-            OperandFault::Address64Outside64 => "64-bit addressing is used outside mode 64",
-            OperandFault::Size => "the displacement size is not 0, 1, 4 or 8",
-            OperandFault::RipIndex =>
-                "a RIP or EIP relative address has an index; it may have none",
-            OperandFault::RipScale => "a RIP or EIP relative address has a scale; it has to be 1",
-            OperandFault::RipOutside64 => "a RIP or EIP relative address is used outside mode 64",
-            OperandFault::RipWithSib =>
+            Self::DisplacementNotZero => "the displacement size is 0 and the displacement is not",
+            Self::DisplacementI8 => "the displacement does not fit in a signed byte",
+            Self::Size16 => "the displacement size of a 16-bit address is not 0, 1 or 2",
+            Self::Address64Outside64 => "64-bit addressing is used outside mode 64",
+            Self::Size => "the displacement size is not 0, 1, 4 or 8",
+            Self::RipIndex => "a RIP or EIP relative address has an index; it may have none",
+            Self::RipScale => "a RIP or EIP relative address has a scale; it has to be 1",
+            Self::RipOutside64 => "a RIP or EIP relative address is used outside mode 64",
+            Self::RipWithSib =>
                 "a RIP or EIP relative address is used where the record wants a SIB byte",
-            OperandFault::EipTarget =>
-                "the target of an EIP relative address does not fit in 32 bits",
-            OperandFault::DisplacementI32 =>
+            Self::EipTarget => "the target of an EIP relative address does not fit in 32 bits",
+            Self::DisplacementI32 =>
                 "the displacement of a 64-bit address does not fit in 32 signed bits",
-            OperandFault::Displacement32 =>
+            Self::Displacement32 =>
                 "the displacement of a 32-bit address does not fit in 32 bits, signed or unsigned",
-            OperandFault::VsibOffsetOnly =>
+            Self::VsibOffsetOnly =>
                 "an address with a vector index has neither base nor index; it needs one",
-            OperandFault::SizeOfAddress =>
+            Self::SizeOfAddress =>
                 "the displacement size is neither 0 nor 1 nor that of the address",
-            OperandFault::StackPointerIndex => "ESP or RSP is the index; it cannot be one",
+            Self::StackPointerIndex => "ESP or RSP is the index; it cannot be one",
         })
     }
 }

@@ -17,17 +17,17 @@ pub enum Rule {
 impl fmt::Display for Rule {
     fn fmt<W: fmt::Write>(&self, f: &mut fmt::Formatter<W>) -> fmt::Result {
         f.write_str(match self {
-            Rule::Fields => "a field of the record is outside its range",
-            Rule::Ranges =>
+            Self::Fields => "a field of the record is outside its range",
+            Self::Ranges =>
                 "a register range is not one whole bank, or not one that this head and operand may have",
-            Rule::Slots =>
+            Self::Slots =>
                 "two operands want the same place in the encoding: at most one may go to ModRM.rm, memory or the opcode, one to ModRM.reg, one to vvvv",
-            Rule::ModRm => "the groups and the ModRM operands do not fit together",
-            Rule::Immediates =>
+            Self::ModRm => "the groups and the ModRM operands do not fit together",
+            Self::Immediates =>
                 "the immediate operands are not none, Ib, Ib Ib, Id, Iq or one branch of a known size, or expect no immediate kind",
-            Rule::Heads => "an operand or the broadcast form does not belong to this head",
-            Rule::Modes => "the mode flags, address size or operand size do not fit together",
-            Rule::FirstByte =>
+            Self::Heads => "an operand or the broadcast form does not belong to this head",
+            Self::Modes => "the mode flags, address size or operand size do not fit together",
+            Self::FirstByte =>
                 "the first byte after the prefixes reads as a prefix or as REX, or the opcode has no room for its register",
         })
     }

@@ -15,14 +15,13 @@ pub enum SheetFault {
 impl fmt::Display for SheetFault {
     fn fmt<W: fmt::Write>(&self, f: &mut fmt::Formatter<W>) -> fmt::Result {
         f.write_str(match self {
-            SheetFault::PageShort => "the page is too short for the instruction",
-            SheetFault::IndexFull =>
+            Self::PageShort => "the page is too short for the instruction",
+            Self::IndexFull =>
                 "the index is full: 4096 instructions, or no free entry in one of its arrays",
-            SheetFault::NoRecord => "the catalogue has no record of this number",
-            SheetFault::Setting =>
-                "a setting is outside its range: 0 or 1, and 0 to 3 for evex_lig",
-            SheetFault::Shrunk => "the page or an array is shorter than what the sheet holds",
-            SheetFault::Mode => "the mode is not 16, 32 or 64",
+            Self::NoRecord => "the catalogue has no record of this number",
+            Self::Setting => "a setting is outside its range: 0 or 1, and 0 to 3 for evex_lig",
+            Self::Shrunk => "the page or an array is shorter than what the sheet holds",
+            Self::Mode => "the mode is not 16, 32 or 64",
         })
     }
 }
