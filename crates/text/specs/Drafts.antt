@@ -36,29 +36,29 @@ abbrev pub wanted_of : Draft → wants.Wanted
 wanted_of d = section_wanted d.section d.words d.head
 
 abbrev pub with_name : Draft → Span → Draft
-with_name d p = record d { words = more_words d.words; name = record { from = cond (d.words == 0) p.from d.name.from; to = p.to } }
+with_name d p = record d { name = record { from = cond (d.words == 0) p.from d.name.from; to = p.to } }
 
 abbrev pub with_head : Draft → List ℕ → Option Draft
 with_head d w = elim (cond (d.words == 0) (head_named w) (head_word d.head (key_of w) (mark_of w) (arg_of w))) [
-  | Some h ↦ Some (record d { words = more_words d.words; head = h })
+  | Some h ↦ Some (record d { head = h })
   | None ↦ None
 ]
 
 abbrev pub with_code : Draft → List ℕ → Option Draft
 with_code d w = elim (cond (d.words == 0) (code_named w) (code_word d.code (key_of w) (mark_of w) (arg_of w))) [
-  | Some c ↦ Some (record d { words = more_words d.words; code = c })
+  | Some c ↦ Some (record d { code = c })
   | None ↦ None
 ]
 
 abbrev pub with_flags : Draft → List ℕ → Option Draft
 with_flags d w = elim (flag_word d.flags (key_of w) (mark_of w) (arg_of w)) [
-  | Some f ↦ Some (record d { words = more_words d.words; flags = f })
+  | Some f ↦ Some (record d { flags = f })
   | None ↦ None
 ]
 
 -- with an operand or none put at the next place, none past the fifth
 abbrev placed : Draft → Option Op → Option Draft
-placed d x = cond (nat_lt d.words 5) (Some (record d { words = more_words d.words; operands = slice_set d.operands d.words x })) None
+placed d x = cond (nat_lt d.words 5) (Some (record d { operands = slice_set d.operands d.words x })) None
 
 -- with an operand, or with an empty place for `-`
 abbrev pub with_operand : Draft → List ℕ → Option Draft
@@ -73,6 +73,10 @@ next_section OpCode n = cond (nat_lt 0 n) (Some Flags) None
 next_section Flags n = Some Operands
 next_section Operands n = None
 
+-- with one word more
+abbrev pub counted : Draft → Draft
+counted d = record d { words = more_words d.words }
+
 -- after a bar, in the next section
 abbrev pub bar_after : Draft → Option Draft
 bar_after d = elim (next_section d.section d.words) [ Some s ↦ Some (record d { section = s; words = 0 }) | None ↦ None ]
@@ -85,7 +89,7 @@ section_word Flags d w p = with_flags d w
 section_word Operands d w p = with_operand d w
 
 abbrev pub word_after : Draft → List ℕ → Span → Option Draft
-word_after d w p = cond (bytes_eq w (codes "|")) (bar_after d) (section_word d.section d w p)
+word_after d w p = cond (bytes_eq w (codes "|")) (bar_after d) (elim (section_word d.section d w p) [ Some e ↦ Some (counted e) | None ↦ None ])
 
 -- a draft with the word that stands at some places of the line
 abbrev pub step_of : Draft → List ℕ → Span → Result Draft RowFault

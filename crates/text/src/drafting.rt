@@ -1,6 +1,6 @@
 // A row's draft, word by word.
 ghost use Rattle.std.specs.Prelude.{◌≡◌, ◌<◌};
-ghost use Rattle.text.specs.Drafts.{wanted_of, with_name, with_head, with_code, with_flags, with_operand, bar_after, word_after, step_of};
+ghost use Rattle.text.specs.Drafts.{wanted_of, with_name, with_head, with_code, with_flags, with_operand, counted, bar_after, word_after, step_of};
 
 use super::code_words::{code_named, code_word};
 use super::draft::{Draft, Section};
@@ -41,7 +41,6 @@ impl Draft {
             self.name.from
         };
         Draft {
-            words: self.words.saturating_add(1),
             name: Span { from, ..place },
             ..self
         }
@@ -55,11 +54,7 @@ impl Draft {
         } else {
             head_word(self.head, Word::new(word))?
         };
-        Some(Draft {
-            words: self.words.saturating_add(1),
-            head,
-            ..self
-        })
+        Some(Draft { head, ..self })
     }
 
     fn with_code(self, word: &[u8]) -> Option<Draft>
@@ -70,18 +65,13 @@ impl Draft {
         } else {
             code_word(self.code, Word::new(word))?
         };
-        Some(Draft {
-            words: self.words.saturating_add(1),
-            code,
-            ..self
-        })
+        Some(Draft { code, ..self })
     }
 
     fn with_flags(self, word: &[u8]) -> Option<Draft>
         ensures { result ≡ with_flags self word.now }
     {
         Some(Draft {
-            words: self.words.saturating_add(1),
             flags: flag_word(self.flags, Word::new(word))?,
             ..self
         })
@@ -103,11 +93,17 @@ impl Draft {
             return None;
         }
         operands[place] = op;
-        Some(Draft {
+        Some(Draft { operands, ..self })
+    }
+
+    // with one word more
+    fn counted(self) -> Draft
+        ensures { result ≡ counted self }
+    {
+        Draft {
             words: self.words.saturating_add(1),
-            operands,
             ..self
-        })
+        }
     }
 
     // after a bar, in the next section
@@ -134,13 +130,14 @@ impl Draft {
         if word == b"|".as_slice() {
             return self.bar();
         }
-        match self.section {
-            Section::Name => Some(self.with_name(place)),
-            Section::Head => self.with_head(word),
-            Section::OpCode => self.with_code(word),
-            Section::Flags => self.with_flags(word),
-            Section::Operands => self.with_operand(word),
-        }
+        let draft = match self.section {
+            Section::Name => self.with_name(place),
+            Section::Head => self.with_head(word)?,
+            Section::OpCode => self.with_code(word)?,
+            Section::Flags => self.with_flags(word)?,
+            Section::Operands => self.with_operand(word)?,
+        };
+        Some(draft.counted())
     }
 
     // with the word that stands at some place of the line
