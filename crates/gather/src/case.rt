@@ -1,4 +1,4 @@
-ghost use Rattle.std.specs.Prelude.{◌≡◌};
+ghost use Rattle.std.specs.Prelude.{◌≡◌, true, Some, None};
 ghost use Rattle.policy.specs.Lowest.{lowest};
 ghost use Rattle.gather.specs.Steps.{broadcasts};
 ghost use Rattle.gather.specs.Cases.{meaning};
@@ -29,6 +29,26 @@ pub struct Operand {
 pub struct MemoryForm {
     pub must_use_sib: bool,
     pub vsib: Option<RegisterRange>,
+}
+
+impl MemoryForm {
+    pub(crate) fn plain(must_use_sib: bool) -> MemoryForm
+        ensures { result ≡ record { must_use_sib = must_use_sib; vsib = None } }
+    {
+        MemoryForm {
+            must_use_sib,
+            vsib: None,
+        }
+    }
+
+    pub(crate) fn vector(range: RegisterRange) -> MemoryForm
+        ensures { result ≡ record { must_use_sib = true; vsib = Some range } }
+    {
+        MemoryForm {
+            must_use_sib: true,
+            vsib: Some(range),
+        }
+    }
 }
 
 impl<P: Policy> Case<'_, P> {

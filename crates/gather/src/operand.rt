@@ -85,11 +85,7 @@ impl<P: Policy> Case<'_, P> {
         if !operand.is_memory() {
             return Err(OperandFault::NeitherRegisterNorMemory);
         }
-        let form = MemoryForm {
-            must_use_sib: false,
-            vsib: None,
-        };
-        self.rm_memory(form, parts)
+        self.rm_memory(MemoryForm::plain(false), parts)
     }
 
     // one operand
@@ -110,18 +106,10 @@ impl<P: Policy> Case<'_, P> {
         match op {
             Op::ModRmRm(range) => self.rm_step(operand, range, parts)?,
             Op::ModRmRmMemOnly(must_use_sib) => {
-                let form = MemoryForm {
-                    must_use_sib,
-                    vsib: None,
-                };
-                self.mem_only_step(operand, form, parts)?;
+                self.mem_only_step(operand, MemoryForm::plain(must_use_sib), parts)?;
             }
             Op::Vsib(range) => {
-                let form = MemoryForm {
-                    must_use_sib: true,
-                    vsib: Some(range),
-                };
-                self.mem_only_step(operand, form, parts)?;
+                self.mem_only_step(operand, MemoryForm::vector(range), parts)?;
             }
             Op::O => match self.absolute(operand) {
                 Ok(offset) => parts.put_offset(offset),
