@@ -53,10 +53,17 @@ impl Item {
 }
 
 fn corpus(rt: &HostRuntime) -> io::Result<Vec<Item>> {
+    let mut input = BufReader::new(rt.alloc(), rt.stdin())?;
     let mut items = Vec::new(rt.alloc());
-    for line in BufReader::new(rt.alloc(), rt.stdin())?.split(rt.alloc(), b'\n') {
-        let line = line?;
-        if let Some(item) = Item::parse(line.as_slice()) {
+    let mut line = Vec::new(rt.alloc());
+    // into one buffer, where `split` takes a new one for each line
+    for _ in 0..u64::MAX {
+        line.clear();
+        if input.read_until(b'\n', &mut line)? == 0 {
+            break;
+        }
+        let case = line.as_slice();
+        if let Some(item) = Item::parse(case.strip_suffix(b"\n").unwrap_or(case)) {
             items.push(item)?;
         }
     }

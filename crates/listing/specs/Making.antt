@@ -1,25 +1,17 @@
-use Rattle.std.specs.Prelude.{ℕ, ◌/◌, ◌%◌, Bool, true, false, cond, List, length, Some, None, Ok, Err, Option, Result, ◌==◌, nat_lt, slice_index, slice_index_or, fold, map, is_some, unwrap_or, option_and_then, ◌||◌}
+use Rattle.std.specs.Prelude.{ℕ, ◌/◌, ◌%◌, Bool, true, false, cond, ◌&&◌, List, length, Some, None, Ok, Err, Option, Result, ◌==◌, nat_lt, slice_index, slice_index_or, fold, map, is_some, unwrap_or, ◌||◌}
 use Rattle.std.specs.List.{range_with_len}
 use Rattle.std.specs.Char.{to_ascii_uppercase}
-use Rattle.machine.specs.Banks.{bank_of}
 use Rattle.machine.specs.OpKinds.{kind_number}
-use Rattle.machine.specs.Opmasks.{opmask_number}
 use Rattle.machine.specs.Registers.{register_named}
-use Rattle.machine.specs.Roundings.{rounding_number}
-use Rattle.machine.specs.Scales.{scale_number}
-use Rattle.machine.specs.Segments.{segment_number}
-use Rattle.machine.specs.declared.bank.Bank.{Bank}
-use Rattle.machine.specs.declared.bank.Bank.TheVariants.{Ip}
 use Rattle.machine.specs.declared.op_kind.OpKind.{OpKind}
 use Rattle.machine.specs.declared.op_kind.OpKind.TheVariants as kind
 use Rattle.machine.specs.declared.register.Register.{Register as Named}
-use Rattle.machine.specs.declared.segment.Segment.{Segment}
 use Rattle.instruction.specs.declared.raw.RawInstruction.{RawInstruction}
 use Rattle.record.specs.declared.op.Op.{Op}
 use Rattle.record.specs.declared.op.Op.TheVariants.{Ib, Id, Iq, J}
 use Rattle.record.specs.declared.op.Operands.{Operands}
 use Rattle.record.specs.Classes.{op_places}
-use Rattle.listing.specs.Drafts.{count_of, memory_at}
+use Rattle.listing.specs.Counts.{count_of}
 use Rattle.listing.specs.declared.line.Asked.{Asked}
 use Rattle.listing.specs.declared.line.Given.{Given}
 use Rattle.listing.specs.declared.line.Given.TheVariants.{Register, Number, Memory}
@@ -53,16 +45,11 @@ kind_of s = elim s.given [
   | None ↦ kind.Register
 ]
 
--- the number of a register, 0 where there is none
-abbrev pub number_of : Option Named → ℕ
-number_of (Some x) = x.number
-number_of None = 0
-
-abbrev pub register_of : Option Given → Option Named
-register_of (Some (Register x)) = Some x
-register_of (Some (Number n)) = None
-register_of (Some Memory) = None
-register_of None = None
+abbrev pub register_of : Option Given → ℕ
+register_of (Some (Register x)) = x
+register_of (Some (Number n)) = 0
+register_of (Some Memory) = 0
+register_of None = 0
 
 -- whether a number of a kind stands in the displacement alone: a branch target or a second byte
 abbrev pub displaced : OpKind → Bool
@@ -99,29 +86,22 @@ displ_after d s = elim s.given [
 abbrev pub raw_size : ℕ → ℕ
 raw_size s = cond (s == 4) 3 (cond (s == 8) 4 s)
 
--- whether a bank is that of RIP and EIP
-abbrev pub ip_bank : Option Bank → Bool
-ip_bank (Some Ip) = true
-ip_bank _ = false
-
 -- the number of the size where none is asked for
 abbrev pub usual_size : ℕ → Place → ℕ
 usual_size mode m =
-    cond (ip_bank (option_and_then (λ x. bank_of x.number) m.base)) 0 (
-    cond (is_some m.base || is_some m.index) (cond (is_some m.displ) 1 0) (
-    cond (mode == 16) 2 (cond (mode == 32) 3 4)))
+    cond (m.base == 69 || m.base == 70) 0 (
+    cond (m.base == 0 && m.index == 0) (cond (mode == 16) 2 (cond (mode == 32) 3 4)) (
+    cond (is_some m.displ) 1 0))
 
 abbrev pub size_of : ℕ → Place → ℕ
 size_of mode m = elim m.size [ Some s ↦ raw_size s | None ↦ usual_size mode m ]
 
+abbrev pub no_memory : Place
+no_memory = record { segment = 0; base = 0; index = 0; scale = 0; displ = None; size = None }
+
 -- the memory operand, with nothing said where there is none
 abbrev pub memory_of : Asked → Place
-memory_of a = unwrap_or a.memory (memory_at None)
-
--- the number of a segment, 0 where there is none
-abbrev pub segment_of : Option Segment → ℕ
-segment_of (Some s) = segment_number s
-segment_of None = 0
+memory_of a = unwrap_or a.memory no_memory
 
 abbrev pub slot_at : Asked → List (Option Op) → ℕ → Slot
 slot_at a l k = record { given = slice_index_or a.operands k None; op = slice_index_or l k None }
@@ -145,19 +125,19 @@ abbrev pub kind_at : List Slot → ℕ → ℕ
 kind_at l k = kind_number (kind_of (slice_index_or l k no_slot))
 
 abbrev pub register_at : List Slot → ℕ → ℕ
-register_at l k = number_of (register_of (slice_index_or l k no_slot).given)
+register_at l k = register_of (slice_index_or l k no_slot).given
 
 -- the fields of the instruction that is asked for, at its operands beside a record's
 abbrev pub fields_of : Asked → ℕ → List Slot → RawInstruction
 fields_of a mode l = record {
   code_size = 0;
-  segment = segment_of (memory_of a).segment;
+  segment = (memory_of a).segment;
   lock = false;
   repe = false;
   repne = false;
-  base = number_of (memory_of a).base;
-  index = number_of (memory_of a).index;
-  scale = scale_number (memory_of a).scale;
+  base = (memory_of a).base;
+  index = (memory_of a).index;
+  scale = (memory_of a).scale;
   displ_size = size_of mode (memory_of a);
   mem_displ = displ_of (unwrap_or (memory_of a).displ 0) l;
   immediate = imm_of l;
@@ -169,15 +149,15 @@ fields_of a mode l = record {
   reg1 = register_at l 1;
   reg2 = register_at l 2;
   reg3 = register_at l 3;
-  opmask = opmask_number a.dress.opmask;
+  opmask = a.dress.opmask;
   zeroing = a.dress.zeroing;
   broadcast = a.dress.broadcast;
   sae = a.dress.sae;
-  rounding = rounding_number a.dress.rounding;
+  rounding = a.dress.rounding;
 }
 
 -- the instruction, or a fault where the record has fewer operands
 abbrev pub instruction_of : Asked → ℕ → Operands → Result RawInstruction ListingFault
 instruction_of a mode o =
-    cond (nat_lt (count_of (op_places o)) (count_of a.operands)) (Err record { column = a.column; wanted = FewerOperands })
+    cond (nat_lt (count_of (op_places o)) a.count) (Err record { column = a.column; wanted = FewerOperands })
     (Ok (fields_of a mode (slots_of a (op_places o))))

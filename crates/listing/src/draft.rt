@@ -1,5 +1,27 @@
-use super::line::{Asked, Line};
-use machine::{Register, Segment};
+ghost use Rattle.std.specs.Prelude.{◌≡◌};
+ghost use Rattle.listing.specs.Drafts.{setting_of};
+
+use super::line::Line;
+use super::request::Request;
+use machine::{Mode, Register, Segment};
+
+// What holds from a line on.
+#[derive(Clone, Copy)]
+pub(crate) enum Setting {
+    Mode(Mode),
+    At(u64),
+}
+
+impl Setting {
+    pub(crate) fn line(self) -> Line
+        ensures { result ≡ setting_of self }
+    {
+        match self {
+            Setting::Mode(mode) => Line::Mode(mode),
+            Setting::At(address) => Line::At(address),
+        }
+    }
+}
 
 // What may come next on a line: a state that each thing moves on.
 #[derive(Clone, Copy)]
@@ -8,7 +30,7 @@ pub(crate) enum Stage {
     Mode,
     Address,
     // the line is complete
-    Done(Line),
+    Done(Setting),
     Operand,
     // the number behind a minus
     Negative,
@@ -35,5 +57,5 @@ pub(crate) enum Stage {
 pub(crate) struct Draft {
     pub(crate) stage: Stage,
     pub(crate) column: usize,
-    pub(crate) asked: Asked,
+    pub(crate) request: Request,
 }

@@ -1,10 +1,13 @@
 // How one thing more goes into a draft; none where another was expected.
-ghost use Rattle.std.specs.Prelude.{◌≡◌};
-ghost use Rattle.listing.specs.Drafts.{negated_of, count_of, put_of, dressed_of, wanted_of, fault_of, finish_of};
+ghost use Rattle.std.specs.Prelude.{◌≡◌, ◌≤◌, length, IfOk, IfSome};
+ghost use Rattle.listing.specs.Counts.{count_of};
+ghost use Rattle.listing.specs.Drafts.{negated_of, put_of, dressed_of, wanted_of, fault_of, finish_of};
+ghost use Rattle.listing.specs.Requests.{Names};
 
-use super::draft::{Draft, Stage};
-use super::line::{Asked, Dress, Given, Line};
+use super::draft::{Draft, Setting, Stage};
+use super::line::Line;
 use super::line_fault::{ListingFault, Wanted};
+use super::request::{Decorations, Operand, Request};
 use super::token::{Decoration, Mark, Token};
 use machine::{Code, Mode, Opmask, RoundingControl};
 
@@ -17,7 +20,8 @@ pub(crate) fn negated(number: u64) -> Option<u64>
 
 // how many operands there are before the first place that has none
 pub(crate) fn count<T>(operands: &[Option<T>]) -> usize
-    ensures { result ≡ count_of operands.now }
+    ensures count { result ≡ count_of operands.now }
+    ensures within { result ≤ length operands.now }
 {
     operands
         .iter()
@@ -25,18 +29,18 @@ pub(crate) fn count<T>(operands: &[Option<T>]) -> usize
         .count()
 }
 
-impl Asked {
+impl Request {
     // with one operand more; the fifth is a number
-    fn put(self, given: Given, column: usize) -> Option<Asked>
-        ensures { result ≡ put_of self given column }
+    fn put(self, operand: Operand, column: usize) -> Option<Request>
+        ensures { result ≡ put_of self operand column }
     {
         let place = count(&self.operands);
-        if place > 4 || place == 4 && !matches!(given, Given::Number(_)) {
+        if place > 4 || place == 4 && !matches!(operand, Operand::Number(_)) {
             return None;
         }
         let mut operands = self.operands;
-        operands[place] = Some(given);
-        Some(Asked {
+        operands[place] = Some(operand);
+        Some(Request {
             column,
             operands,
             ..self
@@ -44,27 +48,27 @@ impl Asked {
     }
 }
 
-impl Dress {
+impl Decorations {
     // with one decoration more; a second mask or rounding is none
-    fn with(self, decoration: Decoration) -> Option<Dress>
+    fn with(self, decoration: Decoration) -> Option<Decorations>
         ensures { result ≡ dressed_of self decoration }
     {
         match decoration {
-            Decoration::Mask(opmask) if self.opmask == Opmask::Unmasked => Some(Dress {
+            Decoration::Mask(opmask) if self.opmask == Opmask::Unmasked => Some(Decorations {
                 opmask,
                 ..self
             }),
-            Decoration::Zeroing => Some(Dress {
+            Decoration::Zeroing => Some(Decorations {
                 zeroing: true,
                 ..self
             }),
-            Decoration::Broadcast => Some(Dress {
+            Decoration::Broadcast => Some(Decorations {
                 broadcast: true,
                 ..self
             }),
-            Decoration::Sae => Some(Dress { sae: true, ..self }),
+            Decoration::Sae => Some(Decorations { sae: true, ..self }),
             Decoration::Rounding(rounding) if self.rounding == RoundingControl::Unstated => Some(
-                Dress { rounding, ..self },
+                Decorations { rounding, ..self },
             ),
             _ => None,
         }
@@ -116,9 +120,9 @@ impl Draft {
             Token::At => Some(self.at(Stage::Address)),
             Token::Number(number) => Some(Draft {
                 stage: Stage::Operand,
-                asked: Asked {
+                request: Request {
                     number: u16::try_from(number).ok()?,
-                    ..self.asked
+                    ..self.request
                 },
                 ..self
             }),
@@ -129,19 +133,19 @@ impl Draft {
     // the number behind mode or at
     fn setting(self, token: Token) -> Option<Draft> {
         let said = match (self.stage, token) {
-            (Stage::Mode, Token::Number(bits)) => Line::Mode(Mode::from_number(u8::try_from(
+            (Stage::Mode, Token::Number(bits)) => Setting::Mode(Mode::from_number(u8::try_from(
                 bits,
             ).ok()?)?),
-            (Stage::Address, Token::Number(address)) => Line::At(address),
+            (Stage::Address, Token::Number(address)) => Setting::At(address),
             _ => return None,
         };
         Some(self.at(Stage::Done(said)))
     }
 
     // with one operand more
-    pub(crate) fn put(self, given: Given) -> Option<Draft> {
+    pub(crate) fn put(self, operand: Operand) -> Option<Draft> {
         Some(Draft {
-            asked: self.asked.put(given, self.column)?,
+            request: self.request.put(operand, self.column)?,
             ..self
         })
     }
@@ -149,9 +153,9 @@ impl Draft {
     // the begin of an operand
     fn operand(self, token: Token) -> Option<Draft> {
         match token {
-            Token::Number(number) => Some(self.put(Given::Number(number))?.at(Stage::After)),
+            Token::Number(number) => Some(self.put(Operand::Number(number))?.at(Stage::After)),
             Token::Register(register) => {
-                let draft = self.put(Given::Register(register))?;
+                let draft = self.put(Operand::Register(register))?;
                 Some(draft.at(Stage::Register(register)))
             }
             Token::Mark(Mark::Minus) => Some(self.at(Stage::Negative)),
@@ -164,7 +168,7 @@ impl Draft {
     fn negative(self, token: Token) -> Option<Draft> {
         match token {
             Token::Number(number) => {
-                let draft = self.put(Given::Number(negated(number)?))?;
+                let draft = self.put(Operand::Number(negated(number)?))?;
                 Some(draft.at(Stage::After))
             }
             _ => None,
@@ -174,14 +178,14 @@ impl Draft {
     // behind an operand
     pub(crate) fn after(self, token: Token) -> Option<Draft> {
         match token {
-            Token::Mark(Mark::Comma) if count(&self.asked.operands) < 5 => Some(self.at(
+            Token::Mark(Mark::Comma) if count(&self.request.operands) < 5 => Some(self.at(
                 Stage::Operand,
             )),
             Token::Decoration(decoration) => Some(Draft {
                 stage: Stage::After,
-                asked: Asked {
-                    dress: self.asked.dress.with(decoration)?,
-                    ..self.asked
+                request: Request {
+                    dress: self.request.dress.with(decoration)?,
+                    ..self.request
                 },
                 ..self
             }),
@@ -208,13 +212,18 @@ impl Draft {
 
     // what the line says, where it may end; nothing where nothing stands on it
     pub(crate) fn finish(self) -> Result<Option<Line>, ListingFault>
-        ensures { result ≡ finish_of self }
+        ensures said { result ≡ finish_of self }
+        ensures names { IfOk result (λ l. IfSome l Names) }
     {
         match self.stage {
             Stage::First => Ok(None),
-            Stage::Done(said) => Ok(Some(said)),
-            Stage::Operand if count(&self.asked.operands) == 0 => Ok(Some(Line::Asked(self.asked))),
-            Stage::Register(_) | Stage::Memory | Stage::After => Ok(Some(Line::Asked(self.asked))),
+            Stage::Done(said) => Ok(Some(said.line())),
+            Stage::Operand if count(&self.request.operands) == 0 => Ok(Some(Line::Asked(
+                self.request.asked(),
+            ))),
+            Stage::Register(_) | Stage::Memory | Stage::After => Ok(Some(Line::Asked(
+                self.request.asked(),
+            ))),
             _ => Err(self.fault()),
         }
     }

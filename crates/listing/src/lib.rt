@@ -24,6 +24,7 @@ mod making;
 mod memory_steps;
 mod names;
 mod parsing;
+mod request;
 mod token;
 
 pub use line::{Asked, Dress, Given, Line, Memory};

@@ -1,12 +1,12 @@
 // The instruction that a line asks for, as numbers.
 ghost use Rattle.std.specs.Prelude.{◌≡◌, ◌<◌};
-ghost use Rattle.listing.specs.Making.{expected_of, kind_of, number_of, register_of, displaced, imm_after, displ_with, displ_after, raw_size, usual_size, size_of, slot_at, slots_of, imm_of, displ_of, memory_of, fields_of, instruction_of};
+ghost use Rattle.listing.specs.Making.{expected_of, kind_of, register_of, displaced, imm_after, displ_with, displ_after, raw_size, usual_size, size_of, slot_at, slots_of, imm_of, displ_of, no_memory, memory_of, fields_of, instruction_of};
 
 use super::drafting::count;
 use super::line::{Asked, Given, Memory};
 use super::line_fault::{ListingFault, Wanted};
 use instruction::RawInstruction;
-use machine::{Bank, Code, OpKind, Register};
+use machine::{Code, OpKind};
 use record::{Op, Operands};
 use std::array;
 
@@ -15,13 +15,6 @@ use std::array;
 struct Slot {
     given: Option<Given>,
     op: Option<Op>,
-}
-
-// the number of a register, 0 where there is none
-fn number(register: Option<Register>) -> u8
-    ensures { result ≡ number_of register }
-{
-    register.map_or(0, |register| register.number)
 }
 
 // whether a number of a kind stands in the displacement alone
@@ -71,12 +64,12 @@ impl Slot {
         }
     }
 
-    fn register(&self) -> Option<Register>
+    fn register(&self) -> u8
         ensures { result ≡ register_of self.now.given }
     {
         match self.given {
-            Some(Given::Register(register)) => Some(register),
-            _ => None,
+            Some(Given::Register(number)) => number,
+            _ => 0,
         }
     }
 
@@ -113,15 +106,29 @@ fn raw_size(size: u8) -> u8
 }
 
 impl Memory {
+    // with nothing said
+    fn none() -> Memory
+        ensures { result ≡ no_memory }
+    {
+        Memory {
+            segment: 0,
+            base: 0,
+            index: 0,
+            scale: 0,
+            displ: None,
+            size: None,
+        }
+    }
+
     // the number of the size where none is asked for
     fn usual_size(&self, mode: u8) -> u8
         ensures { result ≡ usual_size mode self.now }
     {
-        let bank = self.base.and_then(|base| base.bank());
-        if matches!(bank, Some(Bank::Ip)) {
+        // RIP or EIP
+        if matches!(self.base, 69 | 70) {
             return 0;
         }
-        if self.base.is_some() || self.index.is_some() {
+        if self.base != 0 || self.index != 0 {
             return self.displ.is_some() as u8;
         }
         match mode {
@@ -175,18 +182,18 @@ impl Asked {
     fn fields(&self, mode: u8, slots: [Slot; 5]) -> RawInstruction
         ensures { result ≡ fields_of self.now mode slots }
     {
-        let memory = self.memory.unwrap_or(Memory::new(None));
+        let memory = self.memory.unwrap_or(Memory::none());
         let displ = memory.displ.unwrap_or(0);
         let [op0, op1, op2, op3, _] = slots;
         RawInstruction {
             code_size: 0,
-            segment: memory.segment.map_or(0, |segment| segment.number()),
+            segment: memory.segment,
             lock: false,
             repe: false,
             repne: false,
-            base: number(memory.base),
-            index: number(memory.index),
-            scale: memory.scale.number(),
+            base: memory.base,
+            index: memory.index,
+            scale: memory.scale,
             displ_size: memory.size(mode),
             mem_displ: displacement(displ, &slots),
             immediate: immediate(&slots),
@@ -194,15 +201,15 @@ impl Asked {
             kind1: op1.kind().number(),
             kind2: op2.kind().number(),
             kind3: op3.kind().number(),
-            reg0: number(op0.register()),
-            reg1: number(op1.register()),
-            reg2: number(op2.register()),
-            reg3: number(op3.register()),
-            opmask: self.dress.opmask.number(),
+            reg0: op0.register(),
+            reg1: op1.register(),
+            reg2: op2.register(),
+            reg3: op3.register(),
+            opmask: self.dress.opmask,
             zeroing: self.dress.zeroing,
             broadcast: self.dress.broadcast,
             sae: self.dress.sae,
-            rounding: self.dress.rounding.number(),
+            rounding: self.dress.rounding,
         }
     }
 
@@ -212,7 +219,7 @@ impl Asked {
         ensures { result ≡ instruction_of self.now mode operands.now }
     {
         let ops = operands.places();
-        if count(&self.operands) > count(&ops) {
+        if self.count as usize > count(&ops) {
             return Err(ListingFault {
                 column: self.column,
                 wanted: Wanted::FewerOperands,

@@ -4,7 +4,7 @@ ghost use Rattle.listing.specs.Drafts.{factor_of, vector, memory_at, held_of, in
 
 use super::draft::{Draft, Stage};
 use super::drafting::negated;
-use super::line::{Asked, Given, Memory};
+use super::request::{Address, Operand, Request};
 use super::token::{Mark, Token};
 use machine::{Bank, Code, Register, Scale, Segment};
 
@@ -26,12 +26,12 @@ fn is_vector(register: Register) -> bool
     matches!(register.bank(), Some(Bank::Xmm | Bank::Ymm | Bank::Zmm))
 }
 
-impl Memory {
+impl Address {
     // in a segment, with nothing else said yet
-    pub(crate) fn new(segment: Option<Segment>) -> Memory
+    pub(crate) fn new(segment: Option<Segment>) -> Address
         ensures { result ≡ memory_at segment }
     {
-        Memory {
+        Address {
             segment,
             base: None,
             index: None,
@@ -42,62 +42,62 @@ impl Memory {
     }
 
     // with an index
-    fn indexed(self, register: Register) -> Option<Memory>
+    fn indexed(self, register: Register) -> Option<Address>
         ensures { result ≡ indexed_of self register }
     {
         if self.index.is_some() {
             return None;
         }
-        Some(Memory {
+        Some(Address {
             index: Some(register),
             ..self
         })
     }
 
     // with a register that has no factor: a vector is the index, else the first is the base
-    fn holding(self, register: Register) -> Option<Memory>
+    fn holding(self, register: Register) -> Option<Address>
         ensures { result ≡ held_of self register }
     {
         if is_vector(register) || self.base.is_some() {
             return self.indexed(register);
         }
-        Some(Memory {
+        Some(Address {
             base: Some(register),
             ..self
         })
     }
 
     // with a displacement
-    fn moved(self, displ: u64) -> Option<Memory>
+    fn moved(self, displ: u64) -> Option<Address>
         ensures { result ≡ moved_of self displ }
     {
         if self.displ.is_some() {
             return None;
         }
-        Some(Memory {
+        Some(Address {
             displ: Some(displ),
             ..self
         })
     }
 }
 
-impl Asked {
+impl Request {
     // without its last operand
-    fn without_last(self) -> Asked {
+    fn without_last(self) -> Request {
         let mut operands = self.operands;
         if let Some(last) = operands.iter_mut().rev().find(|operand| operand.is_some()) {
             *last = None;
         }
-        Asked { operands, ..self }
+        Request { operands, ..self }
     }
 }
 
 impl Draft {
-    fn with_memory(self, memory: Memory) -> Draft {
+    fn with_memory(self, memory: Address) -> Draft {
         Draft {
-            asked: Asked {
+            request: Request {
                 memory: Some(memory),
-                ..self.asked
+                ..self.request
             },
             ..self
         }
@@ -105,11 +105,11 @@ impl Draft {
 
     // the bracket that opens an address
     pub(crate) fn open(self, segment: Option<Segment>) -> Option<Draft> {
-        if self.asked.memory.is_some() {
+        if self.request.memory.is_some() {
             return None;
         }
-        let draft = self.with_memory(Memory::new(segment));
-        Some(draft.put(Given::Memory)?.at(Stage::Term(false)))
+        let draft = self.with_memory(Address::new(segment));
+        Some(draft.put(Operand::Memory)?.at(Stage::Term(false)))
     }
 
     // behind a register that is an operand, or the segment of one
@@ -117,7 +117,7 @@ impl Draft {
         match (Segment::from_number(register.number), token) {
             (Some(segment), Token::Mark(Mark::Colon)) => Some(Draft {
                 stage: Stage::Open(segment),
-                asked: self.asked.without_last(),
+                request: self.request.without_last(),
                 ..self
             }),
             _ => self.after(token),
@@ -125,7 +125,7 @@ impl Draft {
     }
 
     fn term(self, minus: bool, token: Token) -> Option<Draft> {
-        let memory = self.asked.memory?;
+        let memory = self.request.memory?;
         match token {
             Token::Number(number) => {
                 let displ = if minus { negated(number)? } else { number };
@@ -140,7 +140,7 @@ impl Draft {
 
     // behind a register of an address
     fn held(self, register: Register, token: Token) -> Option<Draft> {
-        let memory = self.asked.memory?;
+        let memory = self.request.memory?;
         match (register.bank(), token) {
             (_, Token::Mark(Mark::Times)) => {
                 let draft = self.with_memory(memory.indexed(register)?);
@@ -157,9 +157,9 @@ impl Draft {
     fn factor(self, token: Token) -> Option<Draft> {
         match token {
             Token::Number(factor) => {
-                let memory = Memory {
+                let memory = Address {
                     scale: scale(factor)?,
-                    ..self.asked.memory?
+                    ..self.request.memory?
                 };
                 Some(self.with_memory(memory).at(Stage::Close))
             }
@@ -180,9 +180,9 @@ impl Draft {
     fn size(self, token: Token) -> Option<Draft> {
         match token {
             Token::Number(size) if matches!(size, 0 | 1 | 2 | 4 | 8) => {
-                let memory = Memory {
+                let memory = Address {
                     size: u8::try_from(size).ok(),
-                    ..self.asked.memory?
+                    ..self.request.memory?
                 };
                 Some(self.with_memory(memory).at(Stage::After))
             }

@@ -1,11 +1,13 @@
 // A whole line.
-ghost use Rattle.std.specs.Prelude.{◌≡◌};
+ghost use Rattle.std.specs.Prelude.{◌≡◌, IfOk, IfSome};
 ghost use Rattle.listing.specs.Drafts.{empty_draft};
+ghost use Rattle.listing.specs.Requests.{Names};
 
 use super::draft::{Draft, Stage};
 use super::lexing::{after_blanks, next_token};
-use super::line::{Asked, Dress, Line};
+use super::line::Line;
 use super::line_fault::ListingFault;
+use super::request::{Decorations, Request};
 use machine::{Opmask, RoundingControl};
 
 impl Draft {
@@ -16,12 +18,12 @@ impl Draft {
         Draft {
             stage: Stage::First,
             column: 0,
-            asked: Asked {
+            request: Request {
                 number: 0,
                 column: 0,
                 operands: [None; 5],
                 memory: None,
-                dress: Dress {
+                dress: Decorations {
                     opmask: Opmask::Unmasked,
                     zeroing: false,
                     broadcast: false,
@@ -34,8 +36,11 @@ impl Draft {
 }
 
 impl Line {
-    // what a line says, none where nothing stands on it
-    pub fn parse(line: &[u8]) -> Result<Option<Line>, ListingFault> {
+    // what a line says, none where nothing stands on it; the registers, segments, scales, masks and roundings that it asks for
+    // are such as there are
+    pub fn parse(line: &[u8]) -> Result<Option<Line>, ListingFault>
+        ensures { IfOk result (λ l. IfSome l Names) }
+    {
         let mut draft = Draft::new();
         let mut rest = line;
         // what a thing takes decides where the next begins

@@ -1,54 +1,18 @@
 -- A register is found by its name.
 use Rattle.std.proofs.Common.{◌≡◌, ℕ, zero, suc, ◌+◌, ◌-◌, ◌<◌, ◌≤◌, Bool, true, false, cond, eqb, List, [], ◌∷◌, length, get_or, Some, None, Option, sym, refl, ap, ◌∙◌, arith}
-use Rattle.std.specs.Prelude.{◌&&◌, bytes_eq, position}
+use Rattle.std.specs.Prelude.{position}
 use Rattle.std.specs.List.{position_from}
 use Rattle.std.proofs.lemmas.Iterator.Adapters.{position_from-zero}
-use Rattle.std.proofs.lemmas.Grind.{same_number_lists}
-use Rattle.std.specs.Cmp.Lexicographic.{same_text, other_text}
 use Rattle.std.proofs.lemmas.Bool.Decides.{nat_tests}
 use Rattle.machine.specs.Names.{names, same_name, name_from, name_register, NameThere, NameBack}
 
--- of two lists of five, the test by place is the library's
-agree : (v w : List ℕ) (k : ℕ) → k < 5 → same_name v w ≡ true → get_or v k 0 ≡ get_or w k 0
-agree v w zero h e = grind (arith, nat_tests)
-agree v w (suc zero) h e = grind (arith, nat_tests)
-agree v w (suc (suc zero)) h e = grind (arith, nat_tests)
-agree v w (suc (suc (suc zero))) h e = grind (arith, nat_tests)
-agree v w (suc (suc (suc (suc zero)))) h e = grind (arith, nat_tests)
-agree v w (suc (suc (suc (suc (suc k))))) h e = grind arith
-
-same_five : (v w : List ℕ) → length v ≡ 5 → length w ≡ 5 → same_name v w ≡ true → v ≡ w
-same_five v w a b e = same_number_lists v w (a ∙ sym b) (λ k h. agree v w k (omega (arith, a)) e)
-
-itself : (w : List ℕ) → same_name w w ≡ true
-itself w = grind (arith, nat_tests)
-
-five_told : (v w : List ℕ) (r t : Bool) → bytes_eq v w ≡ r → same_name v w ≡ t → length v ≡ 5 → length w ≡ 5 → r ≡ t
-five_told v w true true e f a b = refl
-five_told v w false false e f a b = refl
-five_told v w true false e f a b = let same : v ≡ w = same_text v w (sym e) in let hit : same_name w w ≡ true = itself w in grind (arith, same, hit)
-five_told v w false true e f a b = elim (other_text v w (sym e) (same_five v w a b f)) [ ]
-
-abbrev of_five : List (List ℕ) → Bool
-of_five [] = true
-of_five (v ∷ vs) = eqb (length v) 5 && of_five vs
-
-names_of_five : of_five names ≡ true
-unfolding names
-names_of_five = refl
-
-placed_from : (vs : List (List ℕ)) (w : List ℕ) (k : ℕ) → of_five vs ≡ true → length w ≡ 5 → position_from (λ v. bytes_eq v w) k vs ≡ name_from vs w k
-placed_from [] w k e h = refl
-placed_from (v ∷ vs) w k e h =
-    let here : length v ≡ 5 = grind (arith, nat_tests) in
-    let on : of_five vs ≡ true = grind (arith, nat_tests) in
-    let told : bytes_eq v w ≡ same_name v w = five_told v w (bytes_eq v w) (same_name v w) refl refl here h in
-    let rest : position_from (λ v. bytes_eq v w) (k + 1) vs ≡ name_from vs w (k + 1) = placed_from vs w (k + 1) on h in
-    grind (arith, told, rest)
+placed_from : (vs : List (List ℕ)) (w : List ℕ) (k : ℕ) → position_from (λ v. same_name v w) k vs ≡ name_from vs w k
+placed_from [] w k = refl
+placed_from (v ∷ vs) w k = ap (cond (same_name v w) (Some k)) (placed_from vs w (k + 1))
 
 -- the place of a name in the table is the number of its register
-pub placed : (w : List ℕ) → length w ≡ 5 → position (λ v. bytes_eq v w) names ≡ name_register w
-placed w h = position_from-zero (λ v. bytes_eq v w) names ∙ placed_from names w 0 names_of_five h
+pub placed : (w : List ℕ) → position (λ v. same_name v w) names ≡ name_register w
+placed w = position_from-zero (λ v. same_name v w) names ∙ placed_from names w 0
 
 pub names_length : length names ≡ 181
 unfolding names

@@ -1,4 +1,4 @@
-ghost use Rattle.std.specs.Prelude.{◌≡◌, ◌≤◌, [], Option, slice_index_or, bytes_eq, position};
+ghost use Rattle.std.specs.Prelude.{◌≡◌, ◌≤◌, [], Option, slice_index_or, position};
 ghost use Rattle.machine.specs.Names.{names, same_name, name_register};
 
 // Five places each, filled up with zeros: rows and listings state a name by its places.
@@ -195,12 +195,18 @@ pub(crate) fn name_of(number: u8) -> [u8; 5]
     NAMES[number as usize]
 }
 
+fn same(v: &[u8; 5], w: &[u8; 5]) -> bool
+    ensures { result ≡ same_name v.now w.now }
+{
+    v[0] == w[0] && v[1] == w[1] && v[2] == w[2] && v[3] == w[3] && v[4] == w[4]
+}
+
 // the place of a name in the table
 #[tactic(auto, unfolding(crate::specs::Names::names))]
 fn place_of(name: [u8; 5]) -> Option<usize>
-    ensures { result ≡ position (λ known. bytes_eq known name) names }
+    ensures { result ≡ position (λ known. same_name known name) names }
 {
-    NAMES.iter().position(|known| *known == name)
+    NAMES.iter().position(|known| same(known, &name))
 }
 
 // the number of the register with this name, filled up with zeros

@@ -11,14 +11,14 @@ use Rattle.numerals.specs.declared.Radix.{Radix}
 use Rattle.numerals.specs.declared.Radix.TheVariants.{Decimal, Hexadecimal}
 use Rattle.numerals.specs.Numbers.{base, number_of}
 
-grows : (b n : ℕ) (t : List ℕ) → 1 ≤ b → n ≤ digits_value_after b n t
+pub grows : (b n : ℕ) (t : List ℕ) → 1 ≤ b → n ≤ digits_value_after b n t
 grows b n [] h = le_refl n
 grows b n (c ∷ t) h =
     let more : n * 1 ≤ n * b = mul-le-mul_left n h in
     let rest = grows b (n * b + digit_value c) t h in
     omega arith
 
-some_digits : (r : Radix) → 1 ≤ base r
+pub some_digits : (r : Radix) → 1 ≤ base r
 some_digits Decimal = omega arith
 some_digits Hexadecimal = omega arith
 

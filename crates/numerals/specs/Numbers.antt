@@ -1,6 +1,6 @@
-use Rattle.std.specs.Prelude.{ℕ, ◌^◌, Bool, cond, ◌&&◌, List, length, Some, None, Option, nat_lt}
+use Rattle.std.specs.Prelude.{ℕ, ◌^◌, Bool, cond, not, ◌&&◌, List, length, take, Some, None, Option, ◌==◌, nat_lt}
 use Rattle.std.specs.Char.{is_digit}
-use Rattle.std.specs.List.{list_all}
+use Rattle.std.specs.List.{list_all, prefix_len}
 use Rattle.std.specs.Str.Parse.{digits_value}
 use Rattle.numerals.specs.declared.Radix.{Radix}
 use Rattle.numerals.specs.declared.Radix.TheVariants.{Decimal, Hexadecimal}
@@ -20,3 +20,15 @@ number_of r t =
     cond (is_numeral (base r) t && nat_lt (digits_value (base r) t) (2 ^ 64))
     (Some (digits_value (base r) t))
     None
+
+-- a number and its count of digits, none where there are none
+abbrev pub written : ℕ → ℕ → Option (ℕ × ℕ)
+written v k = cond (nat_lt 0 k) (Some (v, k)) None
+
+-- how many bytes come before the first e
+abbrev pub length_before : ℕ → List ℕ → ℕ
+length_before e t = prefix_len (λ c. not (c == e)) t
+
+-- the number that the bytes before the first e write, and how many they are
+abbrev pub number_before : Radix → List ℕ → ℕ → Option (ℕ × ℕ)
+number_before r t e = elim (number_of r (take (length_before e t) t)) [ Some v ↦ Some (v, length_before e t) | None ↦ None ]

@@ -2,7 +2,7 @@
 #![tactic(auto)]
 
 ghost use Rattle.std.specs.Prelude.{◌≡◌};
-ghost use Rattle.numerals.specs.Numbers.{base, number_of};
+ghost use Rattle.numerals.specs.Numbers.{base, number_of, written, number_before};
 
 // The digits that a number is written with.
 #[derive(Clone, Copy)]
@@ -33,4 +33,30 @@ pub fn number(radix: Radix, text: &[u8]) -> Option<u64>
         value = value.checked_mul(base as u64)?.checked_add(digit as u64)?;
     }
     Some(value)
+}
+
+// a number and its count of digits, none where there are none
+fn written(number: u64, count: usize) -> Option<(u64, usize)>
+    ensures { result ≡ written number count }
+{
+    (count > 0).then_some((number, count))
+}
+
+// the number below 2^64 that the bytes before the first `end` are, or all where there is none, and how many they are: one
+// digit or more. What can be no part of a number is read no further.
+pub fn number_before(radix: Radix, text: &[u8], end: u8) -> Option<(u64, usize)>
+    ensures { result ≡ number_before radix text.now end }
+{
+    let base = radix.base();
+    let mut sum = 0u64;
+    let mut count = 0usize;
+    for byte in text {
+        if *byte == end {
+            return written(sum, count);
+        }
+        let digit = (*byte as char).to_digit(base)?;
+        sum = sum.checked_mul(base as u64)?.checked_add(digit as u64)?;
+        count += 1;
+    }
+    written(sum, count)
 }

@@ -30,10 +30,16 @@ fn show_built_in<W: Write>(out: &mut W) -> io::Result<()> {
 fn main(rt: HostRuntime) -> io::Result<()> {
     let mut judge = Judge::default();
     let mut out = BufWriter::new(rt.alloc(), rt.stdout())?;
-    let input = BufReader::new(rt.alloc(), rt.stdin())?;
-    for (i, line) in input.split(rt.alloc(), b'\n').enumerate() {
-        let line = line?;
-        judge.take(&mut out, i + 1, line.as_slice())?;
+    let mut input = BufReader::new(rt.alloc(), rt.stdin())?;
+    let mut line = Vec::new(rt.alloc());
+    // into one buffer, where `split` takes a new one for each line
+    for number in 1..usize::MAX {
+        line.clear();
+        if input.read_until(b'\n', &mut line)? == 0 {
+            break;
+        }
+        let row = line.as_slice();
+        judge.take(&mut out, number, row.strip_suffix(b"\n").unwrap_or(row))?;
     }
     if judge.is_empty() {
         show_built_in(&mut out)?;

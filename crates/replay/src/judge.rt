@@ -1,28 +1,25 @@
 use super::answer::sound;
 use super::encoded::encoded;
 use super::entry::Entry;
+use super::expected::Expected;
 use super::reply::Reply;
 use super::way::Way;
-use std::alloc::Global;
 use std::io;
 use std::io::Write;
 
 // What has been taken so far.
-#[derive(Drop)]
+#[derive(Clone, Copy)]
 pub struct Judge {
     // the way of every line, where the lines name none
     way: Option<Way>,
-    // the last answer that was compared
-    answer: String,
     taken: u64,
     differ: u64,
 }
 
 impl Judge {
-    pub fn new(alloc: Global, way: Option<Way>) -> Judge {
+    pub fn new(way: Option<Way>) -> Judge {
         Judge {
             way,
-            answer: String::new(alloc),
             taken: 0,
             differ: 0,
         }
@@ -54,9 +51,7 @@ impl Judge {
             self.count(false);
             return writeln!(out, "{reply}");
         };
-        self.answer.clear();
-        write!(self.answer, "{reply}")?;
-        let same = self.answer.as_bytes() == expected;
+        let same = Expected::new(expected).is(&reply);
         self.count(!same);
         if same {
             return Ok(());

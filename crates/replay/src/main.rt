@@ -4,6 +4,7 @@
 mod answer;
 mod encoded;
 mod entry;
+mod expected;
 mod judge;
 mod reply;
 mod way;
@@ -27,12 +28,18 @@ fn chosen(rt: &HostRuntime) -> io::Result<Option<Way>> {
 }
 
 fn main(rt: HostRuntime) -> io::Result<()> {
-    let mut judge = Judge::new(rt.alloc(), chosen(&rt)?);
+    let mut judge = Judge::new(chosen(&rt)?);
     let mut out = BufWriter::new(rt.alloc(), rt.stdout())?;
-    let input = BufReader::new(rt.alloc(), rt.stdin())?;
-    for (i, line) in input.split(rt.alloc(), b'\n').enumerate() {
-        let line = line?;
-        judge.take(&mut out, i + 1, line.as_slice())?;
+    let mut input = BufReader::new(rt.alloc(), rt.stdin())?;
+    let mut line = Vec::new(rt.alloc());
+    // into one buffer, where `split` takes a new one for each line
+    for number in 1..usize::MAX {
+        line.clear();
+        if input.read_until(b'\n', &mut line)? == 0 {
+            break;
+        }
+        let entry = line.as_slice();
+        judge.take(&mut out, number, entry.strip_suffix(b"\n").unwrap_or(entry))?;
     }
     judge.end(&mut out)?;
     out.flush()

@@ -16,6 +16,15 @@ use Rattle.text.specs.declared.row_fault.RowFault.{RowFault}
 use Rattle.text.specs.declared.row_fault.Wanted as wants
 use Rattle.text.specs.declared.row_fault.Wanted.TheVariants as want
 
+-- a draft that is changed in place, where what it was given fits
+abbrev pub kept : Option (Unit {0}) → Draft → Option Draft
+kept (Some u) d = Some d
+kept None d = None
+
+abbrev pub read : Result (Unit {0}) RowFault → Draft → Result Draft RowFault
+read (Ok u) d = Ok d
+read (Err f) d = Err f
+
 abbrev pub more_words : ℕ → ℕ
 more_words n = cond (nat_lt n 255) (n + 1) 255
 

@@ -1,6 +1,8 @@
-use Rattle.std.specs.Prelude.{ℕ, zero, suc, ◌+◌, Bool, cond, not, ◌&&◌, ◌||◌, List, length, drop, replicate, pos, Some, None, Ok, Err, Option, Result, ◌==◌, nat_lt, int_lt, slice_range, slice_set}
+use Rattle.std.specs.Prelude.{ℕ, zero, suc, ◌+◌, Bool, cond, not, ◌&&◌, ◌||◌, List, length, take, drop, replicate, pos, neg_ℤ, Some, None, Ok, Err, Option, Result, ◌==◌, nat_lt, int_lt, slice_range, slice_set}
 use Rattle.std.specs.Ordering.{int_eq}
 use Rattle.std.specs.List.{prefix_len}
+use Rattle.numerals.specs.Numbers.{number_before}
+use Rattle.numerals.specs.declared.Radix.TheVariants.{Decimal}
 use Rattle.text.specs.Numbers.{signed_of}
 use Rattle.text.specs.declared.case_fault.CaseFault.{CaseFault}
 use Rattle.text.specs.declared.case_fault.CaseFault.TheVariants.{NotNumber, TooFew, TooMany, NotHeld}
@@ -37,6 +39,17 @@ in_piece b = not (b == 32)
 -- the place of the first space from `at` on, or the line's end
 abbrev pub piece_end : List ℕ → ℕ → ℕ
 piece_end l at = at + prefix_len in_piece (drop at l)
+
+-- the number that the digits before the first space write, and how many bytes it has, without a minus and behind one
+unfoldable pub plain_of : List ℕ → Option (Number × ℕ)
+plain_of t = elim (number_before Decimal t 32) [ Some p ↦ Some (record { 0 = pos p.0 }, p.1) | None ↦ None ]
+
+unfoldable pub minus_of : List ℕ → Option (Number × ℕ)
+minus_of t = elim (number_before Decimal t 32) [ Some p ↦ Some (record { 0 = neg_ℤ (pos p.0) }, 1 + p.1) | None ↦ None ]
+
+-- the number before the first space or the end of a text, and how many bytes it has
+unfoldable pub piece_of : List ℕ → Option (Number × ℕ)
+piece_of t = elim (signed_of (take (prefix_len in_piece t) t)) [ Some n ↦ Some (record { 0 = n }, prefix_len in_piece t) | None ↦ None ]
 
 -- the number between two places that are a space or an end of the line, and the second place
 abbrev pub number_at : List ℕ → ℕ → Option (Number × ℕ)

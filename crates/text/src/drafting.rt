@@ -1,6 +1,6 @@
 // A row's draft, word by word.
 ghost use Rattle.std.specs.Prelude.{◌≡◌, ◌<◌};
-ghost use Rattle.text.specs.Drafts.{wanted_of, with_name, with_head, with_code, with_flags, with_operand, counted, bar_after, word_after, step_of};
+ghost use Rattle.text.specs.Drafts.{kept, read, wanted_of, with_name, with_head, with_code, with_flags, with_operand, counted, bar_after, word_after, step_of};
 
 use super::code_words::{code_named, code_word};
 use super::draft::{Draft, Section};
@@ -32,122 +32,112 @@ impl Draft {
         }
     }
 
-    fn with_name(self, place: Span) -> Draft
-        ensures { result ≡ with_name self place }
+    fn with_name(&mut self, place: Span)
+        ensures { self.new ≡ with_name self.old place }
     {
         let from = if self.words == 0 {
             place.from
         } else {
             self.name.from
         };
-        Draft {
-            name: Span { from, ..place },
-            ..self
-        }
+        self.name = Span { from, ..place };
     }
 
-    fn with_head(self, word: &[u8]) -> Option<Draft>
-        ensures { result ≡ with_head self word.now }
+    fn with_head(&mut self, word: &[u8]) -> Option<()>
+        ensures { kept result self.new ≡ with_head self.old word.now }
     {
-        let head = if self.words == 0 {
+        self.head = if self.words == 0 {
             head_named(word)?
         } else {
             head_word(self.head, Word::new(word))?
         };
-        Some(Draft { head, ..self })
+        Some(())
     }
 
-    fn with_code(self, word: &[u8]) -> Option<Draft>
-        ensures { result ≡ with_code self word.now }
+    fn with_code(&mut self, word: &[u8]) -> Option<()>
+        ensures { kept result self.new ≡ with_code self.old word.now }
     {
-        let code = if self.words == 0 {
+        self.code = if self.words == 0 {
             code_named(word)?
         } else {
             code_word(self.code, Word::new(word))?
         };
-        Some(Draft { code, ..self })
+        Some(())
     }
 
-    fn with_flags(self, word: &[u8]) -> Option<Draft>
-        ensures { result ≡ with_flags self word.now }
+    fn with_flags(&mut self, word: &[u8]) -> Option<()>
+        ensures { kept result self.new ≡ with_flags self.old word.now }
     {
-        Some(Draft {
-            flags: flag_word(self.flags, Word::new(word))?,
-            ..self
-        })
+        self.flags = flag_word(self.flags, Word::new(word))?;
+        Some(())
     }
 
     // with an operand, or with an empty place for `-`
-    fn with_operand(self, word: &[u8]) -> Option<Draft>
-        ensures { result ≡ with_operand self word.now }
+    fn with_operand(&mut self, word: &[u8]) -> Option<()>
+        ensures { kept result self.new ≡ with_operand self.old word.now }
     {
         let op = if word == b"-".as_slice() {
             None
         } else {
             Some(operand_word(Word::new(word))?)
         };
-        let mut operands = self.operands;
         // not by get_mut: what the array holds after a write through it stayed open
         let place = self.words as usize;
-        if place >= operands.len() {
+        if place >= self.operands.len() {
             return None;
         }
-        operands[place] = op;
-        Some(Draft { operands, ..self })
+        self.operands[place] = op;
+        Some(())
     }
 
     // with one word more
-    fn counted(self) -> Draft
-        ensures { result ≡ counted self }
+    fn counted(&mut self)
+        ensures { self.new ≡ counted self.old }
     {
-        Draft {
-            words: self.words.saturating_add(1),
-            ..self
-        }
+        self.words = self.words.saturating_add(1);
     }
 
     // after a bar, in the next section
-    fn bar(self) -> Option<Draft>
-        ensures { result ≡ bar_after self }
+    fn bar(&mut self) -> Option<()>
+        ensures { kept result self.new ≡ bar_after self.old }
     {
-        let section = match self.section {
+        self.section = match self.section {
             Section::Name if self.words > 0 => Section::Head,
             Section::Head if self.words > 0 => Section::OpCode,
             Section::OpCode if self.words > 0 => Section::Flags,
             Section::Flags => Section::Operands,
             _ => return None,
         };
-        Some(Draft {
-            section,
-            words: 0,
-            ..self
-        })
+        self.words = 0;
+        Some(())
     }
 
-    fn word(self, word: &[u8], place: Span) -> Option<Draft>
-        ensures { result ≡ word_after self word.now place }
+    fn word(&mut self, word: &[u8], place: Span) -> Option<()>
+        ensures { kept result self.new ≡ word_after self.old word.now place }
     {
         if word == b"|".as_slice() {
             return self.bar();
         }
-        let draft = match self.section {
+        match self.section {
             Section::Name => self.with_name(place),
             Section::Head => self.with_head(word)?,
             Section::OpCode => self.with_code(word)?,
             Section::Flags => self.with_flags(word)?,
             Section::Operands => self.with_operand(word)?,
-        };
-        Some(draft.counted())
+        }
+        self.counted();
+        Some(())
     }
 
-    // with the word that stands at some place of the line
-    pub(crate) fn step(self, word: &[u8], place: Span) -> Result<Draft, RowFault>
+    // the word that stands at some place of the line, into the draft in place, as copies of it cost more than the words
+    pub(crate) fn step(&mut self, word: &[u8], place: Span) -> Result<(), RowFault>
         requires { place.from < place.to }
-        ensures { result ≡ step_of self word.now place }
+        ensures { read result self.new ≡ step_of self.old word.now place }
     {
-        self.word(word, place).ok_or_else(|| RowFault {
+        let wanted = self.wanted();
+        self.word(word, place).ok_or(RowFault {
             column: place.from + 1,
-            wanted: self.wanted(),
+            wanted,
         })
     }
 }

@@ -1,13 +1,12 @@
 // The 61 numbers of a case line.
-ghost use Rattle.std.specs.Prelude.{◌≡◌, ◌<◌, ◌≤◌, length};
-ghost use Rattle.std.specs.List.{prefix_len};
-ghost use Rattle.text.specs.Line.{in_piece, number_at, limit_of, start_from, item_of, numbers_of};
+ghost use Rattle.std.specs.Prelude.{◌≡◌, ◌+◌, ◌<◌, ◌≤◌, length, IfSome};
+ghost use Rattle.text.specs.Line.{plain_of, minus_of, piece_of, number_at, limit_of, start_from, item_of, numbers_of};
 ghost use Rattle.text.specs.Fields.{nth};
 ghost use Rattle.text.specs.Numbers.{byte_of, word_of, long_of, small_of, flag_of, kind_of, code_size_of};
 
 use super::case_fault::CaseFault;
-use super::values::signed;
 use machine::{Code, CodeSize, OpKind};
+use numerals::{Radix, number_before};
 
 // A number as it is written, below 2^64 with a sign. A type of its own: of a bare i128 the proof of `read` stayed open.
 #[derive(Clone, Copy)]
@@ -19,21 +18,46 @@ pub(crate) struct Numbers {
     all: [Number; 61],
 }
 
-// how many bytes come before the first space; on its own, since inside `number_at` the chain's goals stayed open
-fn piece_len(text: &[u8]) -> usize
-    ensures count { result ≡ prefix_len in_piece text.now }
-    ensures within { result ≤ length text.now }
+// the number before the first space or the end of a text, and how many bytes it has
+#[tactic(auto, unfolding(crate::specs::Line::plain_of))]
+fn plain(text: &[u8]) -> Option<(Number, usize)>
+    ensures value { result ≡ plain_of text.now }
+    ensures within { IfSome result (λ p. p.1 ≤ length text.now) }
 {
-    text.iter().take_while(|byte| **byte != b' ').count()
+    let (size, len) = number_before(Radix::Decimal, text, b' ')?;
+    Some((Number(i128::from(size)), len))
+}
+
+// the same behind a minus
+#[tactic(auto, unfolding(crate::specs::Line::minus_of))]
+fn minus(digits: &[u8]) -> Option<(Number, usize)>
+    ensures value { result ≡ minus_of digits.now }
+    ensures within { IfSome result (λ p. p.1 ≤ length digits.now + 1) }
+{
+    let (size, len) = number_before(Radix::Decimal, digits, b' ')?;
+    Some((Number(-i128::from(size)), 1 + len))
+}
+
+// the same, a minus before it or not
+fn piece(text: &[u8]) -> Option<(Number, usize)>
+    ensures value { result ≡ piece_of text.now }
+    ensures within { IfSome result (λ p. p.1 ≤ length text.now) }
+{
+    match text {
+        [] => None,
+        [b'-', digits @ ..] => minus(digits),
+        [_, ..] => plain(text),
+    }
 }
 
 // the number that begins at a place and is ended by a space or by the line's end, and the place after it
+#[tactic(auto, using(crate::proofs::Pieces::placed_some, crate::proofs::Pieces::placed_none))]
 fn number_at(line: &[u8], from: usize) -> Option<(Number, usize)>
     requires { from ≤ length line.now }
     ensures { result ≡ number_at line.now from }
 {
-    let end = from + piece_len(&line[from..]);
-    Some((Number(signed(&line[from..end])?), end))
+    let (number, len) = piece(&line[from..])?;
+    Some((number, from + len))
 }
 
 // the largest number that can be held at a place after the number `last`; none where any number can

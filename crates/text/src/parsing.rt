@@ -86,7 +86,7 @@ fn drafted(line: &[u8]) -> Result<Draft, RowFault>
     let mut at = word_begin(line, 0);
     while at < line.len() {
         let to = word_end(line, at);
-        draft = draft.step(&line[at..to], Span { from: at, to })?;
+        draft.step(&line[at..to], Span { from: at, to })?;
         at = word_begin(line, to);
     }
     Ok(draft)

@@ -1,4 +1,5 @@
 use Rattle.std.proofs.Common.{◌<◌, length, sym, ap, ◌∙◌, arith}
+use Rattle.text.specs.Drafts.{read}
 use Rattle.text.specs.Rows.{empty_draft, words_from}
 use Rattle.text.proofs.Wording.{word_ok}
 use Rattle.text.proofs.parsing.drafted.Goals as goal
@@ -12,5 +13,6 @@ pub loop-at-preserved : goal.loop-at-preserved
 loop-at-preserved c =
     let i = c.loop-at.invariant in
     let moves : c.loop-at.at < c.word_begin-at-in-loop-at.result = omega arith in
-    let t = word_ok c.loop-at.draft c.args.line.now c.loop-at.at c.loop-at-test.true c.word_end-to.result c.word_begin-at-in-loop-at.result c.word_end-to.ensures.place c.word_begin-at-in-loop-at.ensures.place moves i.0 c.in_ok-draft.draft i.1 (sym c.in_ok-draft.ensures) in
+    let read_on = sym c.step.ensures ∙ ap (λ r. read r c.step.new.self) c.in_ok-step.was in
+    let t = word_ok c.loop-at.draft c.args.line.now c.loop-at.at c.loop-at-test.true c.word_end-to.result c.word_begin-at-in-loop-at.result c.word_end-to.ensures.place c.word_begin-at-in-loop-at.ensures.place moves i.0 c.step.new.self i.1 read_on in
     (t.0, t.1, t.2 ∙ i.2)

@@ -1,0 +1,18 @@
+use Rattle.std.proofs.Common.{rules, ◌≡◌, ◌∙◌}
+use Rattle.std.proofs.lemmas.List.{take_rest}
+use Rattle.std.specs.Prelude.{slice_index}
+use Rattle.text.proofs.Pieces.{minus_piece, plain_piece, empty_piece}
+use Rattle.text.proofs.numbers.piece.Goals as goal
+
+pub returns-in-empty-clause-value : goal.returns-in-empty-clause-value
+returns-in-empty-clause-value c = empty_piece c.args.text.now c.in-empty.len_below
+
+pub returns-in-45-clause-value : goal.returns-in-45-clause-value
+returns-in-45-clause-value c =
+    let minus : slice_index c.args.text.now 0 ≡ 45 = search rules in
+    c.minus.ensures.value ∙ minus_piece c.args.text.now _ c.in-45.len_at_least minus (take_rest c.args.text.now 1)
+
+pub returns-in-len1-up-clause-value : goal.returns-in-len1-up-clause-value
+returns-in-len1-up-clause-value c =
+    let other : slice_index c.args.text.now 0 ≡ 45 → ⊥ = search rules in
+    c.plain.ensures.value ∙ plain_piece c.args.text.now other
