@@ -1,4 +1,4 @@
-use Rattle.std.specs.Prelude.{ℕ, List, map, Some, None, Option, slice_index_or, ◌≡◌}
+use Rattle.std.specs.Prelude.{ℕ, List, length, map, Some, None, Option, slice_index_or, ◌≡◌}
 use Rattle.std.specs.Option.{option_map}
 use Rattle.std.specs.List.{range_with_len}
 use Rattle.machine.specs.Opmasks.{opmask_number}
@@ -52,8 +52,8 @@ numbers_of_dress d = record { opmask = opmask_number d.opmask; zeroing = d.zeroi
 abbrev pub asked_of : Request → Asked
 asked_of r = record { number = r.number; count = count_of r.operands; column = r.column; operands = givens_of r; memory = option_map numbers_of_memory r.memory; dress = numbers_of_dress r.dress }
 
--- a line's numbers are those of registers, segments, scales, masks and roundings that there are
+-- a line's numbers are those of registers, segments, scales, masks and roundings that there are, and of its five places
 abbrev pub Names : Line → Type 0
-Names (line.Asked a) = (r : Request) × (a ≡ asked_of r)
+Names (line.Asked a) = (r : Request) × (length r.operands ≡ 5) × (a ≡ asked_of r)
 Names (line.Mode m) = Unit
 Names (line.At n) = Unit

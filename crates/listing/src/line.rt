@@ -1,5 +1,5 @@
 // What a line says. Registers, masks and the like are numbers here, and any number may be handed in: what a line of text
-// asks for is told by `Request`, which holds no number that names nothing.
+// asks for is told by `Request`, whose registers, segments, scales, masks and roundings are such as there are.
 use machine::Mode;
 
 // One operand, a register by its number. Its memory stands once for the whole line.

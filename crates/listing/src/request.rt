@@ -1,4 +1,4 @@
-// What a line asks for in the machine's words, none of which it can miss, and the same in numbers.
+// What a line asks for in the machine's words, and the same in numbers.
 ghost use Rattle.std.specs.Prelude.{◌≡◌, ◌<◌};
 ghost use Rattle.listing.specs.Requests.{register_number, given_of, given_at, givens_of, numbers_of_memory, numbers_of_dress, asked_of};
 
