@@ -1,4 +1,4 @@
-use Rattle.std.specs.Prelude.{ℕ, zero, suc, ◌+◌, Bool, cond, not, ◌&&◌, ◌||◌, List, length, take, drop, replicate, pos, neg_ℤ, Some, None, Ok, Err, Option, Result, ◌==◌, nat_lt, int_lt, slice_range, slice_set}
+use Rattle.std.specs.Prelude.{ℕ, zero, suc, ◌+◌, Bool, true, false, cond, not, ◌&&◌, ◌||◌, List, length, take, drop, replicate, ℤ, pos, neg_ℤ, Some, None, Ok, Err, Option, Result, ◌==◌, nat_lt, int_lt, slice_range, slice_set}
 use Rattle.std.specs.Ordering.{int_eq}
 use Rattle.std.specs.List.{prefix_len}
 use Rattle.numerals.specs.Numbers.{number_before}
@@ -40,12 +40,13 @@ in_piece b = not (b == 32)
 abbrev pub piece_end : List ℕ → ℕ → ℕ
 piece_end l at = at + prefix_len in_piece (drop at l)
 
--- the number that the digits before the first space write, and how many bytes it has, without a minus and behind one
-unfoldable pub plain_of : List ℕ → Option (Number × ℕ)
-plain_of t = elim (number_before Decimal t 32) [ Some p ↦ Some (record { 0 = pos p.0 }, p.1) | None ↦ None ]
+abbrev pub with_sign : Bool → ℕ → ℤ
+with_sign true v = neg_ℤ (pos v)
+with_sign false v = pos v
 
-unfoldable pub minus_of : List ℕ → Option (Number × ℕ)
-minus_of t = elim (number_before Decimal t 32) [ Some p ↦ Some (record { 0 = neg_ℤ (pos p.0) }, 1 + p.1) | None ↦ None ]
+-- the number that the digits before the first space write, behind a minus or not, and how many digits they are
+unfoldable pub signed_before : Bool → List ℕ → Option (Number × ℕ)
+signed_before m t = elim (number_before Decimal t 32) [ Some p ↦ Some (record { 0 = with_sign m p.0 }, p.1) | None ↦ None ]
 
 -- the number before the first space or the end of a text, and how many bytes it has
 unfoldable pub piece_of : List ℕ → Option (Number × ℕ)

@@ -1,6 +1,6 @@
 // The 61 numbers of a case line.
-ghost use Rattle.std.specs.Prelude.{◌≡◌, ◌+◌, ◌<◌, ◌≤◌, length, IfSome};
-ghost use Rattle.text.specs.Line.{plain_of, minus_of, piece_of, number_at, limit_of, start_from, item_of, numbers_of};
+ghost use Rattle.std.specs.Prelude.{◌≡◌, ◌<◌, ◌≤◌, length, IfSome};
+ghost use Rattle.text.specs.Line.{signed_before, piece_of, number_at, limit_of, start_from, item_of, numbers_of};
 ghost use Rattle.text.specs.Fields.{nth};
 ghost use Rattle.text.specs.Numbers.{byte_of, word_of, long_of, small_of, flag_of, kind_of, code_size_of};
 
@@ -18,35 +18,29 @@ pub(crate) struct Numbers {
     all: [Number; 61],
 }
 
-// the number before the first space or the end of a text, and how many bytes it has
-#[tactic(auto, unfolding(crate::specs::Line::plain_of))]
-fn plain(text: &[u8]) -> Option<(Number, usize)>
-    ensures value { result ≡ plain_of text.now }
+// the number that the digits before the first space write, behind a minus or not, and how many digits they are
+#[tactic(auto, unfolding(crate::specs::Line::signed_before))]
+fn signed_before(text: &[u8], minus: bool) -> Option<(Number, usize)>
+    ensures value { result ≡ signed_before minus text.now }
     ensures within { IfSome result (λ p. p.1 ≤ length text.now) }
 {
     let (size, len) = number_before(Radix::Decimal, text, b' ')?;
-    Some((Number(i128::from(size)), len))
+    let size = i128::from(size);
+    Some((Number(if minus { -size } else { size }), len))
 }
 
-// the same behind a minus
-#[tactic(auto, unfolding(crate::specs::Line::minus_of))]
-fn minus(digits: &[u8]) -> Option<(Number, usize)>
-    ensures value { result ≡ minus_of digits.now }
-    ensures within { IfSome result (λ p. p.1 ≤ length digits.now + 1) }
-{
-    let (size, len) = number_before(Radix::Decimal, digits, b' ')?;
-    Some((Number(-i128::from(size)), 1 + len))
-}
-
-// the same, a minus before it or not
+// the number before the first space or the end of a text, a minus before it or not, and how many bytes it has
 fn piece(text: &[u8]) -> Option<(Number, usize)>
     ensures value { result ≡ piece_of text.now }
     ensures within { IfSome result (λ p. p.1 ≤ length text.now) }
 {
     match text {
         [] => None,
-        [b'-', digits @ ..] => minus(digits),
-        [_, ..] => plain(text),
+        [b'-', rest @ ..] => {
+            let (number, len) = signed_before(rest, true)?;
+            Some((number, 1 + len))
+        }
+        [_, ..] => signed_before(text, false),
     }
 }
 
